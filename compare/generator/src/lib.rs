@@ -1,0 +1,75 @@
+//! Seeded sheets, right and wrong. The seed and the index decide every
+//! byte; the index alone decides the kind, in a fixed rotation.
+
+#![forbid(unsafe_code)]
+
+pub mod census;
+mod code;
+mod damage;
+mod draft;
+mod edges;
+mod mutate;
+mod plan;
+pub mod report;
+mod rng;
+mod rows;
+mod style;
+mod tower;
+
+use draft::{render, Draft};
+use rng::Rng;
+
+/// After so many indexes the kinds come round again.
+pub const ROTATION: u64 = 20;
+
+/// The sheet of a seed and an index.
+pub fn sheet(seed: u64, index: u64) -> Vec<u8> {
+    let mut rng = Rng::new(seed, index);
+    let round = index / ROTATION;
+    match index % ROTATION {
+        // Large sheets and sheets of mostly rows take turns.
+        3 if round % 2 == 1 => render(&well_typed(&mut rng, 8)),
+        kind @ 0..=7 => render(&well_typed(&mut rng, kind)),
+        kind @ 8..=14 => {
+            let mut draft = any_well_typed(&mut rng);
+            // Seven changes a round; each has had its turn after three.
+            let change = (round * 7 + kind - 8) % mutate::CHANGES;
+            mutate::mutate(&mut rng, &mut draft, change);
+            render(&draft)
+        }
+        kind @ 15..=16 => {
+            let text = render(&any_well_typed(&mut rng));
+            let kind = (round * 2 + kind - 15) % damage::DAMAGES;
+            damage::damage(&mut rng, text, kind)
+        }
+        kind => edge(&mut rng, round * 3 + kind - 17),
+    }
+}
+
+/// A well-typed sheet: seven styles, towers, and sheets of mostly rows.
+fn well_typed(rng: &mut Rng, kind: u64) -> Draft {
+    match kind {
+        0..=6 => plan::well_typed(rng, &style::ALL[kind as usize]),
+        7 => tower::tower(rng),
+        _ => plan::well_typed(rng, &style::ROWS),
+    }
+}
+
+fn any_well_typed(rng: &mut Rng) -> Draft {
+    let kind = rng.below(9) as u64;
+    well_typed(rng, kind)
+}
+
+/// A sheet at a limit; long texts come after the listed edges.
+fn edge(rng: &mut Rng, number: u64) -> Vec<u8> {
+    let count = edges::EDGES.len() + edges::LENGTHS.len();
+    let number = number as usize % count;
+    match edges::EDGES.get(number) {
+        Some(edge) => edge().into_bytes(),
+        None => {
+            let text = render(&any_well_typed(rng));
+            let length = edges::LENGTHS[number - edges::EDGES.len()];
+            edges::long_text(rng, text, length)
+        }
+    }
+}

@@ -1,0 +1,67 @@
+//! The program over the generator.
+
+#![forbid(unsafe_code)]
+
+use std::io::{self, Write};
+use std::process::ExitCode;
+
+const USAGE: &str = "\
+usage: generator SEED INDEX         write one sheet to standard output
+       generator report SEED COUNT  judge and run sheets 0 to COUNT - 1 of a
+                                    seed and tell what they reach; exits with
+                                    status 1 if a refusal from 2 to 10 or an
+                                    outcome is reached by none
+       generator --help             this text
+
+SEED, INDEX and COUNT are decimals of 64 bits.
+";
+
+fn main() -> ExitCode {
+    let words: Vec<String> = std::env::args_os()
+        .skip(1)
+        .map(|word| word.to_string_lossy().into_owned())
+        .collect();
+    let words: Vec<&str> = words.iter().map(String::as_str).collect();
+    let result = match words[..] {
+        ["--help"] => put(USAGE.as_bytes()),
+        ["report", seed, count] => match (number(seed), number(count)) {
+            (Some(seed), Some(count)) => tell(seed, count),
+            _ => return wrong(),
+        },
+        [seed, index] => match (number(seed), number(index)) {
+            (Some(seed), Some(index)) => put(&generator::sheet(seed, index)),
+            _ => return wrong(),
+        },
+        _ => return wrong(),
+    };
+    result.unwrap_or_else(|error| {
+        eprintln!("generator: {error}");
+        ExitCode::FAILURE
+    })
+}
+
+fn wrong() -> ExitCode {
+    eprint!("{USAGE}");
+    ExitCode::from(2)
+}
+
+fn number(word: &str) -> Option<u64> {
+    let digits = word.bytes().all(|byte| byte.is_ascii_digit());
+    word.parse().ok().filter(|_| digits)
+}
+
+fn put(bytes: &[u8]) -> io::Result<ExitCode> {
+    io::stdout().write_all(bytes)?;
+    Ok(ExitCode::SUCCESS)
+}
+
+fn tell(seed: u64, count: u64) -> io::Result<ExitCode> {
+    let report = generator::report::report(seed, count);
+    put(report.lines().as_bytes())?;
+    let missing = report.missing();
+    if missing.is_empty() {
+        return Ok(ExitCode::SUCCESS);
+    }
+    eprintln!("generator: reached by no sheet: {}", missing.join(", "));
+    Ok(ExitCode::FAILURE)
+}

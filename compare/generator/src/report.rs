@@ -1,0 +1,105 @@
+//! A tally of what a run of sheets reaches.
+
+use crate::census::{census, NAMES};
+use crate::rng::Rng;
+
+/// Budgets at which the sheets of a report are run.
+const BUDGETS: [u32; 12] = [0, 1, 2, 7, 8, 20, 65, 66, 500, 10_000, 10_000, 100_000];
+
+/// How many sheets reached each answer.
+#[derive(Clone, Debug, Default, PartialEq, Eq)]
+pub struct Report {
+    pub sheets: u64,
+    pub accepted: u64,
+    /// By refusal number; 11 is asked of accepted sheets as well.
+    pub refusals: [u64; 12],
+    /// The refusals whose line is in the second half of the sheet.
+    pub late: [u64; 12],
+    pub outcomes: [u64; 4],
+    /// A random pair of rows of each sheet: fits not, fits, is not there.
+    pub fits: [u64; 3],
+    /// By the names of the census.
+    pub uses: [u64; NAMES.len()],
+}
+
+/// Judges and runs so many sheets of a seed.
+pub fn report(seed: u64, count: u64) -> Report {
+    let mut report = Report::default();
+    for index in 0..count {
+        report.add(&crate::sheet(seed, index), &mut Rng::new(!seed, index));
+    }
+    report
+}
+
+impl Report {
+    fn add(&mut self, text: &[u8], rng: &mut Rng) {
+        let budget = match rng.chance(80) {
+            true => rng.pick(&BUDGETS),
+            false => rng.below(3_000) as u32,
+        };
+        self.sheets += 1;
+        self.add_fit(text, rng);
+        let answer = match second::run(text, budget) {
+            Ok(answer) => answer,
+            Err(refusal) => {
+                self.refusals[refusal.number() as usize] += 1;
+                let lines = text.iter().filter(|byte| **byte == b'\n').count();
+                let late = refusal.line as usize > lines / 2;
+                self.late[refusal.number() as usize] += u64::from(late);
+                return;
+            }
+        };
+        self.accepted += 1;
+        self.outcomes[answer.outcome as usize] += 1;
+        let object = rng.below(usize::from(answer.objects) + 1) as u32;
+        let holder = rng.pick(&[object, object, object, 256, 256, 257, 65_535]);
+        if let Err(refusal) = second::authority(text, budget, holder) {
+            self.refusals[refusal.number() as usize] += 1;
+        }
+        if let Ok(sheet) = second::read(text) {
+            for (place, used) in census(&sheet).into_iter().enumerate() {
+                self.uses[place] += u64::from(used);
+            }
+        }
+    }
+
+    fn add_fit(&mut self, text: &[u8], rng: &mut Rng) {
+        let Ok(sheet) = second::read(text) else {
+            return;
+        };
+        let mut row = || rng.below(sheet.rows.len() + usize::from(sheet.rows.len() > 9)) as u32;
+        match second::fit(text, row(), row()) {
+            Ok(fits) => self.fits[usize::from(fits)] += 1,
+            Err(_) => self.fits[2] += 1,
+        }
+    }
+
+    /// The refusals 2 to 10 and outcomes that no sheet reached.
+    pub fn missing(&self) -> Vec<String> {
+        let refusals = (2..=10)
+            .filter(|number| self.refusals[*number] == 0)
+            .map(|number| format!("refusal {number}"));
+        let outcomes = (0..4)
+            .filter(|number| self.outcomes[*number] == 0)
+            .map(|number| format!("outcome {number}"));
+        refusals.chain(outcomes).collect()
+    }
+
+    /// The tally, a line for each count.
+    pub fn lines(&self) -> String {
+        let mut lines = format!("sheets {}\naccepted {}\n", self.sheets, self.accepted);
+        for (number, count) in self.refusals.iter().enumerate().skip(2) {
+            let late = self.late[number];
+            lines += &format!("refusal {number}: {count}, late {late}\n");
+        }
+        for (number, count) in self.outcomes.iter().enumerate() {
+            lines += &format!("outcome {number}: {count}\n");
+        }
+        let [no, yes, none] = self.fits;
+        lines += &format!("fit 0: {no}, fit 1: {yes}, no such row: {none}\n");
+        for (name, count) in NAMES.iter().zip(&self.uses) {
+            lines += &format!("accepted with {name}: {count}\n");
+        }
+        lines
+    }
+}

@@ -1,0 +1,110 @@
+//! Styles of well-typed sheets: how large, and which instructions prevail.
+
+/// What a well-typed sheet should look like.
+#[derive(Clone, Copy, Debug)]
+pub struct Style {
+    pub rows: usize,
+    pub members: usize,
+    /// Names are below this.
+    pub names: usize,
+    /// So many members of a hundred are fields.
+    pub fields: usize,
+    pub forms: usize,
+    pub keeps: usize,
+    /// The most instructions of a body.
+    pub body: usize,
+    pub main: usize,
+    /// Weights of new, call, get, put and copy in bodies.
+    pub weights: [usize; 5],
+    /// Whether bodies may call their own object freely.
+    pub own_calls: bool,
+}
+
+const SMALL: Style = Style {
+    rows: 6,
+    members: 2,
+    names: 4,
+    fields: 20,
+    forms: 6,
+    keeps: 2,
+    body: 4,
+    main: 10,
+    weights: [3, 3, 2, 2, 2],
+    own_calls: false,
+};
+
+pub const TINY: Style = Style {
+    rows: 3,
+    members: 1,
+    names: 2,
+    forms: 3,
+    keeps: 1,
+    body: 2,
+    main: 4,
+    ..SMALL
+};
+
+pub const MIDDLE: Style = Style {
+    rows: 16,
+    members: 4,
+    names: 6,
+    forms: 16,
+    keeps: 3,
+    body: 7,
+    main: 24,
+    ..SMALL
+};
+
+pub const LARGE: Style = Style {
+    rows: 64,
+    members: 8,
+    names: 64,
+    forms: 64,
+    keeps: 8,
+    body: 32,
+    main: 32,
+    ..SMALL
+};
+
+/// Bodies that make much and call much: the store fills.
+pub const BUSY: Style = Style {
+    rows: 8,
+    forms: 8,
+    body: 32,
+    main: 32,
+    weights: [10, 3, 1, 1, 1],
+    ..SMALL
+};
+
+/// Bodies that call themselves: the stack fills.
+pub const LOOPING: Style = Style {
+    body: 3,
+    main: 16,
+    weights: [1, 8, 1, 1, 1],
+    own_calls: true,
+    ..SMALL
+};
+
+/// Many fields, set and read.
+pub const FIELDS: Style = Style {
+    rows: 7,
+    members: 4,
+    names: 6,
+    fields: 45,
+    forms: 10,
+    main: 28,
+    weights: [2, 2, 5, 5, 1],
+    ..SMALL
+};
+
+/// Mostly rows, so that their faults stand late in the sheet.
+pub const ROWS: Style = Style {
+    forms: 3,
+    keeps: 1,
+    body: 2,
+    main: 4,
+    ..LARGE
+};
+
+/// The styles of the rotation, in its order.
+pub const ALL: [Style; 7] = [TINY, SMALL, MIDDLE, LARGE, BUSY, LOOPING, FIELDS];

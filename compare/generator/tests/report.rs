@@ -1,0 +1,66 @@
+//! The report and the program.
+
+use generator::report::{report, Report};
+use std::process::{Command, Output};
+
+fn program(words: &[&str]) -> Output {
+    Command::new(env!("CARGO_BIN_EXE_generator"))
+        .args(words)
+        .output()
+        .expect("the program runs")
+}
+
+#[test]
+fn a_run_of_sheets_reaches_everything() {
+    let report = report(1, 1_500);
+    assert_eq!(report.missing(), Vec::<String>::new());
+    assert_eq!(report.sheets, 1_500);
+    let refused: u64 = report.refusals[..11].iter().sum();
+    assert_eq!(report.accepted + refused, 1_500);
+    assert_eq!(report.outcomes.iter().sum::<u64>(), report.accepted);
+    for (place, uses) in report.uses.iter().enumerate() {
+        assert!(*uses >= 20, "census {place}: {uses}");
+    }
+    assert!(report.fits.iter().all(|count| *count > 0));
+    for number in 3..=10 {
+        assert!(report.late[number] > 0, "no late refusal {number}");
+    }
+}
+
+#[test]
+fn what_is_missing_is_told() {
+    assert_eq!(Report::default().missing().len(), 13);
+    let few = program(&["report", "1", "3"]);
+    assert_eq!(few.status.code(), Some(1));
+    let message = String::from_utf8_lossy(&few.stderr).into_owned();
+    assert!(message.contains("refusal 2, refusal 3"), "{message}");
+}
+
+#[test]
+fn the_program_writes_sheets_and_reports() {
+    for index in [0, 17, 23, 36] {
+        let text = program(&["8", &index.to_string()]);
+        assert_eq!(text.stdout, generator::sheet(8, index));
+        assert_eq!(text.status.code(), Some(0));
+    }
+    let told = program(&["report", "2", "1500"]);
+    assert_eq!(told.status.code(), Some(0));
+    assert_eq!(told.stdout, report(2, 1_500).lines().into_bytes());
+}
+
+#[test]
+fn wrong_command_lines() {
+    let cases: [&[&str]; 6] = [
+        &[],
+        &["1"],
+        &["1", "x"],
+        &["-1", "2"],
+        &["report", "1"],
+        &["a", "b", "c"],
+    ];
+    for words in cases {
+        let output = program(words);
+        assert_eq!(output.status.code(), Some(2), "{words:?}");
+        assert!(output.stdout.is_empty() && !output.stderr.is_empty());
+    }
+}

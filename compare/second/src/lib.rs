@@ -1,0 +1,63 @@
+//! A plain reading of the sheet rules: reader, fit, verdict, bounded run,
+//! authority and printed answer. Every question takes the sheet's text.
+
+#![forbid(unsafe_code)]
+
+pub mod authority;
+mod code;
+pub mod fit;
+mod line;
+pub mod machine;
+mod print;
+mod reader;
+mod refusal;
+pub mod sheet;
+mod typing;
+
+pub use authority::MAIN;
+pub use machine::{Outcome, RunAnswer, NO_VALUE};
+pub use print::{holder_line, print, refusal_lines, PROGRAM_BUDGET};
+pub use reader::read;
+pub use refusal::{Reason, Refusal};
+pub use sheet::Sheet;
+
+/// The two lines that stand for an accepted sheet.
+pub const NO_REFUSAL: &str = "verdict=0\nline=0\n";
+
+/// Whether row a of the sheet fits row b. Stops after reading.
+pub fn fit(text: &[u8], a: u32, b: u32) -> Result<bool, Refusal> {
+    let sheet = read(text)?;
+    let row = |number: u32| match u16::try_from(number) {
+        Ok(row) if usize::from(row) < sheet.rows.len() => Ok(row),
+        _ => Err(Refusal::at(Reason::LooseEnd, 0)),
+    };
+    let (a, b) = (row(a)?, row(b)?);
+    Ok(fit::FitTable::of(&sheet.rows).fits(a, b))
+}
+
+/// Reads and judges a sheet.
+pub fn verdict(text: &[u8]) -> Result<(), Refusal> {
+    accepted(text).map(|_| ())
+}
+
+/// Runs an accepted sheet for at most `budget` steps.
+pub fn run(text: &[u8], budget: u32) -> Result<RunAnswer, Refusal> {
+    let sheet = accepted(text)?;
+    let mut machine = machine::Machine::start(&sheet);
+    Ok(machine.run(budget))
+}
+
+/// The authority of a holder after the run, ascending.
+pub fn authority(text: &[u8], budget: u32, holder: u32) -> Result<Vec<u16>, Refusal> {
+    let sheet = accepted(text)?;
+    let mut machine = machine::Machine::start(&sheet);
+    machine.run(budget);
+    authority::authority_of(&machine, holder).ok_or(Refusal::at(Reason::NoHolder, 0))
+}
+
+/// The table of a sheet that passes the refusals 2 to 10.
+fn accepted(text: &[u8]) -> Result<Sheet, Refusal> {
+    let sheet = read(text)?;
+    typing::judge(&sheet)?;
+    Ok(sheet)
+}

@@ -1,0 +1,111 @@
+//! The program over the library: a sheet on standard input, an answer on
+//! standard output.
+
+#![forbid(unsafe_code)]
+
+use std::io::{self, Read, Write};
+use std::process::ExitCode;
+
+const USAGE: &str = "\
+usage: second                          judge, run 10,000 steps, print all
+       second fit A B                  fit=1 or fit=0
+       second verdict                  verdict=0 and line=0
+       second run BUDGET               run=OUTCOME,STEPS,VALUE,OBJECTS
+       second authority BUDGET HOLDER  holder=HOLDER,OBJECT,.. ascending
+       second --help                   this text
+
+The sheet is read from standard input. A, B, BUDGET and HOLDER are decimals
+from 0 to 4294967295. Main is holder 256. The bare holder is printed where an
+authority is empty. A refusal is printed as verdict=N and line=L in place of
+the answer, with exit status 0. A wrong command line exits with status 2.
+";
+
+/// What the command line asks for.
+enum Question {
+    Print,
+    Fit(u32, u32),
+    Verdict,
+    Run(u32),
+    Authority(u32, u32),
+    Help,
+}
+
+fn main() -> ExitCode {
+    let words: Vec<String> = match std::env::args_os()
+        .skip(1)
+        .map(|word| word.into_string().ok())
+        .collect()
+    {
+        Some(words) => words,
+        None => Vec::from([String::from("?")]),
+    };
+    let words: Vec<&str> = words.iter().map(String::as_str).collect();
+    let Some(question) = question(&words) else {
+        eprint!("{USAGE}");
+        return ExitCode::from(2);
+    };
+    match answer(question) {
+        Ok(()) => ExitCode::SUCCESS,
+        Err(error) => {
+            eprintln!("second: {error}");
+            ExitCode::FAILURE
+        }
+    }
+}
+
+fn question(words: &[&str]) -> Option<Question> {
+    Some(match words {
+        [] => Question::Print,
+        ["fit", a, b] => Question::Fit(number(a)?, number(b)?),
+        ["verdict"] => Question::Verdict,
+        ["run", budget] => Question::Run(number(budget)?),
+        ["authority", budget, holder] => Question::Authority(number(budget)?, number(holder)?),
+        ["--help"] => Question::Help,
+        _ => return None,
+    })
+}
+
+/// A 32-bit unsigned number; signs are turned away.
+fn number(word: &str) -> Option<u32> {
+    let digits = word.bytes().all(|byte| byte.is_ascii_digit());
+    word.parse().ok().filter(|_| digits)
+}
+
+fn answer(question: Question) -> io::Result<()> {
+    let text = match question {
+        Question::Help => Vec::new(),
+        _ => read_input()?,
+    };
+    let answer = match question {
+        Question::Print => Ok(second::print(&text)),
+        Question::Fit(a, b) => {
+            second::fit(&text, a, b).map(|fits| format!("fit={}\n", u8::from(fits)))
+        }
+        Question::Verdict => second::verdict(&text).map(|()| String::from(second::NO_REFUSAL)),
+        Question::Run(budget) => second::run(&text, budget).map(run_line),
+        Question::Authority(budget, holder) => {
+            second::authority(&text, budget, holder).map(|held| second::holder_line(holder, &held))
+        }
+        Question::Help => Ok(String::from(USAGE)),
+    };
+    let lines = answer.unwrap_or_else(second::refusal_lines);
+    io::stdout().write_all(lines.as_bytes())
+}
+
+/// The sheet, or of a text that is too long its first bytes, one too many.
+/// The rest is read and forgotten, so that no writer is cut off.
+fn read_input() -> io::Result<Vec<u8>> {
+    let mut input = io::stdin().lock();
+    let mut text = Vec::new();
+    let most = second::sheet::TEXT_LIMIT as u64 + 1;
+    input.by_ref().take(most).read_to_end(&mut text)?;
+    io::copy(&mut input, &mut io::sink())?;
+    Ok(text)
+}
+
+fn run_line(answer: second::RunAnswer) -> String {
+    format!(
+        "run={},{},{},{}\n",
+        answer.outcome as u8, answer.steps, answer.value, answer.objects
+    )
+}

@@ -1,0 +1,42 @@
+//! The program's printed answer.
+
+use crate::authority::{authority_of, holders};
+use crate::machine::Machine;
+use crate::refusal::Refusal;
+use crate::{accepted, NO_REFUSAL};
+
+/// The steps that the program allows a sheet.
+pub const PROGRAM_BUDGET: u32 = 10_000;
+
+/// Judges and runs a sheet; each line of the answer ends with byte 10.
+pub fn print(text: &[u8]) -> String {
+    let sheet = match accepted(text) {
+        Ok(sheet) => sheet,
+        Err(refusal) => return refusal_lines(refusal),
+    };
+    let mut machine = Machine::start(&sheet);
+    let answer = machine.run(PROGRAM_BUDGET);
+    let mut out = String::from(NO_REFUSAL);
+    out += &format!("outcome={}\n", answer.outcome as u8);
+    out += &format!("steps={}\n", answer.steps);
+    out += &format!("value={}\n", answer.value);
+    for holder in holders(&machine) {
+        let held = authority_of(&machine, u32::from(holder)).unwrap_or_default();
+        out += &holder_line(u32::from(holder), &held);
+    }
+    out
+}
+
+/// The two lines of a refusal.
+pub fn refusal_lines(refusal: Refusal) -> String {
+    format!("verdict={}\nline={}\n", refusal.number(), refusal.line)
+}
+
+/// A holder and its authority; the bare holder where that is empty.
+pub fn holder_line(holder: u32, authority: &[u16]) -> String {
+    let mut line = format!("holder={holder}");
+    for object in authority {
+        line += &format!(",{object}");
+    }
+    line + "\n"
+}

@@ -1,0 +1,4 @@
+pub mod Opened
+pub mod CasesHold
+pub mod AuthorityCases
+pub mod AuthorityLaws

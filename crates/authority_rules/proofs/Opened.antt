@@ -1,0 +1,9 @@
+-- One name for all definitions of this crate's rules, and those below, that stay shut until they are named: a case that is
+-- computed from the rules names it alone. Proves nothing.
+use Rattle.authority_rules.specs.Authority.{isResource, holderOf, slotsOf, reached, contains, holds, passing, authority}
+use Rattle.authority_rules.specs.AuthorityQuestion.{authorityHeld}
+use Rattle.machine_rules.proofs.Opened.{running}
+
+unfoldable pub holding : Unit {0}
+unfolding isResource holderOf slotsOf reached contains holds passing authority authorityHeld running
+holding = tt

@@ -1,0 +1,36 @@
+-- What the authority question answers for a text, a budget and a holder, its buffers left aside (document 01, Turned away, 11).
+-- Stands on Authority and on the run.
+use Prim.Native.Nat.{ℕ}
+use mathlib.Core.Bool.{Bool, true, false, cond}
+use mathlib.Core.List.{List}
+use Rattle.sheet_rules.specs.declared.Reason.{Reason}
+use Rattle.sheet_rules.specs.declared.Reason.the-variants.{NoHolder}
+use Rattle.sheet_rules.specs.declared.Verdict.{Verdict}
+use Rattle.sheet_rules.specs.declared.Verdict.the-variants.{Accepted, Refused}
+use Rattle.sheet_rules.specs.Sheet.{Sheet}
+use Rattle.sheet_rules.specs.Reading.{Meaning, readable, unreadable, meaning}
+use Rattle.type_rules.specs.Typing.{typing}
+use Rattle.machine_rules.specs.State.{State}
+use Rattle.machine_rules.specs.Steps.{run}
+use Rattle.authority_rules.specs.Authority.{isHolder, authority}
+
+-- the numbers that an answer writes, or a refusal with its line
+pub data Held : Type 0 where
+  held : List ℕ → Held
+  notHeld : Reason → ℕ → Held
+
+-- after the run: no such object, a pure one, or a number over 256 is refused
+abbrev pub heldIn : Sheet → State → ℕ → Held
+heldIn s σ h = cond (isHolder s σ h) (held (authority s σ h)) (notHeld NoHolder 0)
+
+abbrev pub heldOf : Sheet → ℕ → ℕ → Verdict → Held
+heldOf s budget h Accepted = heldIn s ((run s budget) .last) h
+heldOf s budget h (Refused r n) = notHeld r n
+
+abbrev pub heldOn : Meaning → ℕ → ℕ → Held
+heldOn (readable s) budget h = heldOf s budget h (typing s)
+heldOn (unreadable r n) budget h = notHeld r n
+
+-- the authority of holder h in the state that the run of a text within a budget leaves
+unfoldable pub authorityHeld : List ℕ → ℕ → ℕ → Held
+authorityHeld text budget h = heldOn (meaning text) budget h

@@ -1,0 +1,4 @@
+pub mod Authority
+pub mod Gain
+pub mod AuthorityQuestion
+pub mod Cases

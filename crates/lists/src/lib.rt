@@ -1,0 +1,1 @@
+// Facts about lists and tests that mention nothing of ours. No functions.

@@ -1,0 +1,131 @@
+-- The state after n steps, and the run within a budget (document 01, The machine). Stands on Step.
+use Prim.Native.Nat.{ℕ, zero, suc, pred}
+use mathlib.Core.List.{List}
+use mathlib.Core.Option.{Option, none, some}
+use lib.ListN.{length}
+use Rattle.sheet_rules.specs.declared.Verdict.{Verdict}
+use Rattle.sheet_rules.specs.declared.Verdict.the-variants.{Accepted, Refused}
+use Rattle.sheet_rules.specs.Sheet.{Sheet}
+use Rattle.sheet_rules.specs.Reading.{Meaning, readable, unreadable, meaning}
+use Rattle.type_rules.specs.Typing.{typing}
+use Rattle.machine_rules.specs.declared.Outcome.{Outcome}
+use Rattle.machine_rules.specs.declared.Outcome.the-variants.{Done, Spent, StoreFull, StackFull}
+use Rattle.machine_rules.specs.declared.Tally.{Tally}
+use Rattle.machine_rules.specs.declared.RunAnswer.{RunAnswer}
+use Rattle.machine_rules.specs.declared.RunReply.{RunReply}
+use Rattle.machine_rules.specs.State.{State, start, frameCount, lastOf}
+use Rattle.machine_rules.specs.Step.{Action, creates, calls, returns, works, Next, finished, step, storeFull, stackFull, lacking, nextStep}
+
+-- THE STATE AFTER N STEPS
+
+-- the state that a step leaves, where there is one
+abbrev pub stateOf : Next → Option State
+stateOf (finished v) = none
+stateOf (step a σ) = some σ
+stateOf storeFull = none
+stateOf stackFull = none
+stateOf lacking = none
+
+-- one step from a state that may be there
+abbrev pub stepFrom : Sheet → Option State → Option State
+stepFrom s none = none
+stepFrom s (some σ) = stateOf (nextStep s σ)
+
+-- the state after n steps from the start, each taken from the state that the last one left; n has no upper limit
+unfoldable pub after : Sheet → ℕ → Option State
+after s zero = some (start s)
+after s (suc n) = stepFrom s (after s n)
+
+-- THE TALLY
+
+-- the counts of a state after n steps
+abbrev pub tallyOf : ℕ → State → Tally
+tallyOf n σ = record { steps = n; objects = length (σ .objects); frames = frameCount σ }
+
+-- one step more: a creation adds an object, a call a frame, and a return takes one away, so that the number of objects is the
+-- creations taken, and the number of frames one plus calls less returns (StepsLaws.tally-next)
+abbrev pub counted : Action → Tally → Tally
+counted (creates c kept) t = record { steps = suc (t .steps); objects = suc (t .objects); frames = t .frames }
+counted (calls receiver argument) t = record { steps = suc (t .steps); objects = t .objects; frames = suc (t .frames) }
+counted returns t = record { steps = suc (t .steps); objects = t .objects; frames = pred (t .frames) }
+counted works t = record { steps = suc (t .steps); objects = t .objects; frames = t .frames }
+
+-- THE RUN
+
+-- how a run ended, the steps that it took, and the state that it left
+pub record Ran : Type 0 where
+  pub outcome : Outcome
+  pub steps : ℕ
+  pub last : State
+
+abbrev pub ended : Outcome → ℕ → State → Ran
+ended o n σ = record { outcome = o; steps = n; last = σ }
+
+-- the budget is used up: done if finished, and else spent, whatever would come next
+abbrev pub budgetUsed : Next → Outcome
+budgetUsed (finished v) = Done
+budgetUsed (step a σ) = Spent
+budgetUsed storeFull = Spent
+budgetUsed stackFull = Spent
+budgetUsed lacking = Spent
+
+-- budget is left: done if finished; else stopped by a full store or a full stack, a stopped step not counted; else one step
+-- and on from there (a state without a step goes no further; typing excludes it, so nothing rests on its outcome)
+abbrev pub goOn : Next → ℕ → State → (State → Ran) → Ran
+goOn (finished v) n σ more = ended Done n σ
+goOn storeFull n σ more = ended StoreFull n σ
+goOn stackFull n σ more = ended StackFull n σ
+goOn (step a σ′) n σ more = more σ′
+goOn lacking n σ more = ended Spent n σ
+
+-- on from a state, with so many steps left of the budget and so many taken; finished is asked first, then the budget
+unfoldable pub runFrom : Sheet → ℕ → ℕ → State → Ran
+runFrom s zero n σ = ended (budgetUsed (nextStep s σ)) n σ
+runFrom s (suc left) n σ = goOn (nextStep s σ) n σ (λ σ′. runFrom s left (suc n) σ′)
+
+-- the run of a sheet within a budget
+unfoldable pub run : Sheet → ℕ → Ran
+run s budget = runFrom s budget 0 (start s)
+
+-- THE ANSWER
+
+-- the numbers of the outcomes
+abbrev pub outcomeNumber : Outcome → ℕ
+outcomeNumber Done = 0
+outcomeNumber Spent = 1
+outcomeNumber StoreFull = 2
+outcomeNumber StackFull = 3
+
+-- the value of an unfinished run
+abbrev pub noValue : ℕ
+noValue = 65535
+
+-- a finished run's value is main's last slot
+abbrev pub valueOf : Outcome → State → ℕ
+valueOf Done σ = lastOf (σ .top .slots)
+valueOf Spent σ = noValue
+valueOf StoreFull σ = noValue
+valueOf StackFull σ = noValue
+
+-- what the run answers
+abbrev pub answerOf : Ran → RunAnswer
+answerOf r =
+    record {
+      outcome = r .outcome;
+      steps = r .steps;
+      value = valueOf (r .outcome) (r .last);
+      objects = length (r .last .objects);
+    }
+
+-- only an accepted sheet is run
+abbrev pub runOf : Sheet → ℕ → Verdict → RunReply
+runOf s budget Accepted = RunReply.Ran (answerOf (run s budget))
+runOf s budget (Refused r n) = RunReply.Refused r n
+
+abbrev pub runOn : Meaning → ℕ → RunReply
+runOn (readable s) budget = runOf s budget (typing s)
+runOn (unreadable r n) budget = RunReply.Refused r n
+
+-- what the run question answers for a text and a budget, its buffer left aside
+unfoldable pub runReply : List ℕ → ℕ → RunReply
+runReply text budget = runOn (meaning text) budget

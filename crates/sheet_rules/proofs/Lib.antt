@@ -1,0 +1,4 @@
+pub mod Opened
+pub mod ReadingCases
+pub mod ReaderLaws
+pub mod ReadingLaws

@@ -1,0 +1,100 @@
+-- Computed cases of reading: the texts that document 01 runs as tests, bad input of every kind, and the order of refusals.
+-- Each row has a text and the refusal's number and line, 0 and 0 for a readable sheet. Assumes nothing.
+use Prim.Native.Nat.{ℕ, pred}
+use Prim.Native.String.{String}
+use mathlib.Core.Path.{_≡_, refl}
+use mathlib.Core.List.{List, [], _∷_, _++_, map}
+use lib.ListN.{length, take, replicate}
+use Rattle.sheet_rules.specs.Answers.{numberOf}
+use Rattle.sheet_rules.specs.Keys.{bytes}
+use Rattle.sheet_rules.specs.Reading.{Meaning, readable, unreadable, meaning}
+use Rattle.sheet_rules.specs.Samples.{textOf, withLine, P, L}
+use Rattle.sheet_rules.proofs.Opened.{reading}
+
+-- the refusal's number and line
+abbrev numbers : Meaning → List ℕ
+numbers (readable s) = 0 ∷ 0 ∷ []
+numbers (unreadable r n) = numberOf r ∷ n ∷ []
+
+record Case : Type 0 where
+  text : List ℕ
+  wanted : List ℕ
+
+abbrev gives : List ℕ → ℕ → ℕ → Case
+gives text number line = record { text = text; wanted = number ∷ line ∷ [] }
+
+-- P with one line replaced
+abbrev P-with : ℕ → String → List ℕ
+P-with n l = textOf (withLine n l P)
+
+-- a text whose first line has this many digits
+abbrev digits : ℕ → List ℕ
+digits k = bytes "types=" ++ replicate k 49 ++ (10 ∷ [])
+
+abbrev cases : List Case
+cases =
+    gives (textOf P) 0 0
+    ∷ gives (textOf L) 0 0
+    -- run as tests
+    ∷ gives [] 3 1
+    ∷ gives (P-with 1 "types=0") 4 1
+    ∷ gives (P-with 1 "types=65") 4 1
+    ∷ gives (P-with 1 "types=03") 3 1
+    ∷ gives (take (pred (length (textOf P))) (textOf P)) 3 20
+    -- bad input: bytes over 127, a carriage return, numbers of 6 and of 600 digits, no number, an unknown key, an empty line
+    ∷ gives (200 ∷ textOf P) 3 1
+    ∷ gives (P-with 2 "type=0,0\r") 3 2
+    ∷ gives (digits 6) 3 1
+    ∷ gives (digits 600) 3 1
+    ∷ gives (P-with 2 "type=0,65536") 3 2
+    ∷ gives (P-with 2 "type=0,65535") 4 2
+    ∷ gives (P-with 2 "type=0,") 3 2
+    ∷ gives (P-with 2 "type=0=0") 3 2
+    ∷ gives (P-with 2 "typo=0,0") 3 2
+    ∷ gives (P-with 2 "") 3 2
+    -- a line missing, a line after main, a key in the wrong place, a wrong number count
+    ∷ gives (textOf (take 19 P)) 3 20
+    ∷ gives (textOf (P ++ ("copy=0" ∷ []))) 3 21
+    ∷ gives (textOf P ++ (10 ∷ [])) 3 21
+    ∷ gives (P-with 8 "keep=0") 3 8
+    ∷ gives (P-with 10 "init=0") 3 10
+    ∷ gives (P-with 20 "call=2,2") 3 20
+    ∷ gives (P-with 19 "new=2,0,0,0,0,0,0,0,0,0") 3 19
+    ∷ gives (P-with 19 "new=2,0,0,0,0,0,0,0,0") 0 0
+    -- limits: K, members, names in a member and in a call, kept values, instructions of a body
+    ∷ gives (P-with 2 "type=2,0") 4 2
+    ∷ gives (P-with 2 "type=0,9") 4 2
+    ∷ gives (P-with 4 "def=64,0,0") 4 4
+    ∷ gives (P-with 4 "def=63,0,0") 0 0
+    ∷ gives (P-with 20 "call=2,64,0") 4 20
+    ∷ gives (P-with 20 "get=64") 4 20
+    ∷ gives (P-with 20 "put=64,0") 4 20
+    ∷ gives (P-with 8 "form=0,9") 4 8
+    ∷ gives (P-with 10 "body=0") 4 10
+    ∷ gives (P-with 16 "main=33") 4 16
+    -- names that do not ascend, before a row that is not lower; a twin on its last line
+    ∷ gives (textOf ("types=2" ∷ "type=0,0" ∷ "type=0,2" ∷ "def=5,0,0" ∷ "def=5,1,0" ∷ [])) 5 5
+    ∷ gives (P-with 6 "def=1,0,0") 6 6
+    ∷ gives (P-with 3 "type=0,0") 6 3
+    -- rows, forms, kept values and slots that do not exist
+    ∷ gives (P-with 4 "def=1,1,0") 7 4
+    ∷ gives (P-with 9 "form=3,0") 7 9
+    ∷ gives (P-with 13 "keep=3") 7 13
+    ∷ gives (P-with 17 "new=3") 7 17
+    ∷ gives (P-with 11 "copy=2") 7 11
+    ∷ gives (P-with 15 "call=3,1,1") 7 15
+    ∷ gives (P-with 20 "call=4,2,0") 7 20
+    ∷ gives (P-with 17 "copy=0") 7 17
+    -- the first line at fault ends the reading, and on a line the lower number wins
+    ∷ gives (textOf (withLine 4 "def=1,1,0" (withLine 20 "call=2,2" P))) 7 4
+    ∷ gives (P-with 4 "def=64,1,0") 4 4
+    ∷ []
+
+pub all : map (λ c. numbers (meaning (c .text))) cases ≡ map (λ c. c .wanted) cases
+unfolding reading
+all = refl
+
+-- a text over 65,535 bytes is refused unread
+pub too-long : numbers (meaning (replicate 70000 10)) ≡ 2 ∷ 0 ∷ []
+unfolding reading
+too-long = refl

@@ -1,0 +1,97 @@
+-- The lines of forms, bodies and main (document 01, The sheet, `forms` and `main`; Turned away, 3, 4 and 7).
+-- Stands on Limits, Keys, Sheet, Reader.
+use Prim.Native.Nat.{ℕ, suc, _+_}
+use mathlib.Core.Bool.{Bool, true, cond, _&&_, _||_}
+use mathlib.Core.List.{List, [], _∷_}
+use lib.Dec.{eqb, leb, ltb}
+use lib.ListN.{length, getD, drop}
+use Rattle.sheet_rules.specs.declared.Member.{Member}
+use Rattle.sheet_rules.specs.declared.Member.the-variants.{Method, Field}
+use Rattle.sheet_rules.specs.declared.Key.{Key}
+use Rattle.sheet_rules.specs.declared.Reason.the-variants.{Malformed, OutOfLimit, NotDefined}
+use Rattle.sheet_rules.specs.Limits.{nameLimit, keepLimit, bodyLimit, instructionLimit}
+use Rattle.sheet_rules.specs.Keys.{codeOf, hasKey, hasInstructionKey}
+use Rattle.sheet_rules.specs.Sheet.{Row, Instr, new, call, get, put, copy, Part, init, body, Form, noMember, rowAt, sizeOfParts, sizeOfForms}
+use Rattle.sheet_rules.specs.Reader.{Judged, good, demand, Reader, _>>=_, give, one, many, nth, within, existingLine}
+
+-- what a `form` line says: its type row and how many values are kept
+pub record FormHeading : Type 0 where
+  pub row : ℕ
+  pub count : ℕ
+
+-- `form=T,C`
+unfoldable pub formLine : ℕ → Key → List ℕ → Judged FormHeading
+formLine rows k ns =
+    demand (hasKey Key.Form k ns) Malformed
+    (demand (leb (nth ns 1) keepLimit) OutOfLimit
+    (demand (ltb (nth ns 0) rows) NotDefined
+    (good (record { row = nth ns 0; count = nth ns 1 }))))
+
+-- `body=I` or `main=I`, after so many instructions of the sheet
+unfoldable pub bodyLine : Key → ℕ → Key → List ℕ → Judged ℕ
+bodyLine wanted used k ns =
+    demand (hasKey wanted k ns) Malformed
+    (demand (within 1 bodyLimit (nth ns 0) && leb (used + nth ns 0) instructionLimit) OutOfLimit
+    (good (nth ns 0)))
+
+-- the instruction that a key and its numbers make
+unfoldable pub instrOf : Key → List ℕ → Instr
+instrOf k ns =
+    cond (eqb (codeOf k) (codeOf Key.New)) (new (nth ns 0) (drop 1 ns))
+    (cond (eqb (codeOf k) (codeOf Key.Call)) (call (nth ns 0) (nth ns 1) (nth ns 2))
+    (cond (eqb (codeOf k) (codeOf Key.Get)) (get (nth ns 0))
+    (cond (eqb (codeOf k) (codeOf Key.Put)) (put (nth ns 0) (nth ns 1))
+    (copy (nth ns 0)))))
+
+-- the name that an instruction has is within its limit
+abbrev pub nameAllowed : Instr → Bool
+nameAllowed (new f ss) = true
+nameAllowed (call o n a) = leb n nameLimit
+nameAllowed (get n) = leb n nameLimit
+nameAllowed (put n v) = leb n nameLimit
+nameAllowed (copy v) = true
+
+unfoldable pub allBelow : ℕ → List ℕ → Bool
+allBelow bound [] = true
+allBelow bound (x ∷ xs) = ltb x bound && allBelow bound xs
+
+-- the form that an instruction names is one of the sheet's, and its slots were filled by earlier lines
+abbrev pub namesExist : ℕ → ℕ → Instr → Bool
+namesExist forms filled (new f ss) = ltb f forms && allBelow filled ss
+namesExist forms filled (call o n a) = ltb o filled && ltb a filled
+namesExist forms filled (get n) = true
+namesExist forms filled (put n v) = ltb v filled
+namesExist forms filled (copy v) = ltb v filled
+
+-- an instruction line, in a sheet of so many forms, with so many slots filled
+unfoldable pub instrLine : ℕ → ℕ → Key → List ℕ → Judged Instr
+instrLine forms filled k ns =
+    demand (hasInstructionKey k ns) Malformed
+    (demand (nameAllowed (instrOf k ns)) OutOfLimit
+    (demand (namesExist forms filled (instrOf k ns)) NotDefined
+    (good (instrOf k ns))))
+
+-- i instructions, the first of them with so many slots filled; each fills one more
+unfoldable pub readInstrs : ℕ → ℕ → ℕ → Reader (List Instr)
+readInstrs forms filled i = many i (λ before. one (instrLine forms (filled + length before))) []
+
+-- a form's part for a member: `init` for a field; for a method `body`, where slots 0 and 1 and the kept ones are filled
+unfoldable pub readPart : ℕ → ℕ → ℕ → Member → Reader Part
+readPart forms keeps used (Field n r) = do
+  k ← one (existingLine Key.Init keeps)
+  give (init k)
+readPart forms keeps used (Method n a r) = do
+  i ← one (bodyLine Key.Body used)
+  is ← readInstrs forms (suc (suc keeps)) i
+  give (body is)
+
+-- a form, after the earlier ones, in a sheet of so many
+unfoldable pub readForm : List Row → ℕ → List Form → Reader Form
+readForm rows forms earlier = do
+  h ← one (formLine (length rows))
+  keeps ← many (h .count) (λ before. one (existingLine Key.Keep (length rows))) []
+  let members : List Member = (rowAt rows (h .row)) .members
+  parts ← many (length members)
+      (λ before. readPart forms (length keeps) (sizeOfForms earlier + sizeOfParts before) (getD members (length before) noMember))
+      []
+  give (record { row = h .row; keeps = keeps; parts = parts })

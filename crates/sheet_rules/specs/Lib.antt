@@ -1,0 +1,11 @@
+pub mod Limits
+pub mod Sheet
+pub mod Keys
+pub mod Lines
+pub mod Reader
+pub mod RowLines
+pub mod FormLines
+pub mod Reading
+pub mod WellFormed
+pub mod Answers
+pub mod Samples

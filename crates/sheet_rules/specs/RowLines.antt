@@ -1,0 +1,100 @@
+-- The lines of the type rows (document 01, The sheet, `types`; Turned away, 3 to 7). Stands on Limits, Keys, Sheet, Reader.
+use Prim.Native.Nat.{ℕ, zero, suc}
+use mathlib.Core.Bool.{Bool, true, false, not, cond, _&&_, _||_}
+use mathlib.Core.List.{List, [], _∷_, _++_}
+use lib.Dec.{eqb, leb, ltb}
+use lib.ListN.{length}
+use Rattle.sheet_rules.specs.declared.Kind.{Kind}
+use Rattle.sheet_rules.specs.declared.Kind.the-variants.{Pure, Resource}
+use Rattle.sheet_rules.specs.declared.Member.{Member}
+use Rattle.sheet_rules.specs.declared.Member.the-variants.{Method, Field}
+use Rattle.sheet_rules.specs.declared.Key.{Key}
+use Rattle.sheet_rules.specs.declared.Reason.the-variants.{Malformed, OutOfLimit, NotAscending, DuplicateRow, NotDefined}
+use Rattle.sheet_rules.specs.Limits.{memberLimit, nameLimit}
+use Rattle.sheet_rules.specs.Keys.{codeOf, hasKey}
+use Rattle.sheet_rules.specs.Sheet.{Row}
+use Rattle.sheet_rules.specs.Reader.{Judged, good, demand, Reader, _>>=_, give, one, many, nth}
+
+-- K 0 is pure, 1 a resource
+abbrev pub kindOf : ℕ → Kind
+kindOf zero = Pure
+kindOf (suc n) = Resource
+
+abbrev pub sameKind : Kind → Kind → Bool
+sameKind Pure Pure = true
+sameKind Pure Resource = false
+sameKind Resource Pure = false
+sameKind Resource Resource = true
+
+abbrev pub nameOf : Member → ℕ
+nameOf (Method n a r) = n
+nameOf (Field n r) = n
+
+abbrev pub sameMember : Member → Member → Bool
+sameMember (Method n a r) (Method n′ a′ r′) = eqb n n′ && eqb a a′ && eqb r r′
+sameMember (Method n a r) (Field n′ r′) = false
+sameMember (Field n r) (Method n′ a′ r′) = false
+sameMember (Field n r) (Field n′ r′) = eqb n n′ && eqb r r′
+
+unfoldable pub sameMembers : List Member → List Member → Bool
+sameMembers [] [] = true
+sameMembers [] (y ∷ ys) = false
+sameMembers (x ∷ xs) [] = false
+sameMembers (x ∷ xs) (y ∷ ys) = sameMember x y && sameMembers xs ys
+
+abbrev pub sameRow : Row → Row → Bool
+sameRow a b = sameKind (a .kind) (b .kind) && sameMembers (a .members) (b .members)
+
+-- the row equals an earlier one (01's term: twin)
+unfoldable pub twin : List Row → Row → Bool
+twin [] a = false
+twin (b ∷ bs) a = sameRow b a || twin bs a
+
+-- what a `type` line says: the kind and how many members follow
+pub record Heading : Type 0 where
+  pub kind : Kind
+  pub count : ℕ
+
+-- `type=K,M`; for a row without members this is its last line, where a twin is refused
+unfoldable pub rowLine : List Row → Key → List ℕ → Judged Heading
+rowLine earlier k ns =
+    demand (hasKey Key.Row k ns) Malformed
+    (demand (leb (nth ns 0) 1 && leb (nth ns 1) memberLimit) OutOfLimit
+    (demand (not (eqb (nth ns 1) 0 && twin earlier (record { kind = kindOf (nth ns 0); members = [] }))) DuplicateRow
+    (good (record { kind = kindOf (nth ns 0); count = nth ns 1 }))))
+
+-- a name above that of the member before, if there is one
+unfoldable pub ascends : List Member → ℕ → Bool
+ascends [] n = true
+ascends (x ∷ []) n = ltb (nameOf x) n
+ascends (x ∷ y ∷ ys) n = ascends (y ∷ ys) n
+
+-- `def=N,A,R` or `var=N,F`
+abbrev pub memberOf : Key → List ℕ → Member
+memberOf k ns = cond (eqb (codeOf k) (codeOf Key.Def)) (Method (nth ns 0) (nth ns 1) (nth ns 2)) (Field (nth ns 0) (nth ns 1))
+
+-- the rows that a member mentions are below a number
+abbrev pub mentionsBelow : ℕ → Member → Bool
+mentionsBelow i (Method n a r) = ltb a i && ltb r i
+mentionsBelow i (Field n r) = ltb r i
+
+-- a member line, after the row's heading and the members before it; the last one completes the row
+unfoldable pub memberLine : List Row → Heading → List Member → Key → List ℕ → Judged Member
+memberLine earlier h before k ns =
+    demand (hasKey Key.Def k ns || hasKey Key.Var k ns) Malformed
+    (demand (leb (nth ns 0) nameLimit) OutOfLimit
+    (demand (ascends before (nth ns 0)) NotAscending
+    (demand
+    (not
+    (eqb (suc (length before)) (h .count)
+    && twin earlier (record { kind = h .kind; members = before ++ (memberOf k ns ∷ []) })))
+    DuplicateRow
+    (demand (mentionsBelow (length earlier) (memberOf k ns)) NotDefined
+    (good (memberOf k ns))))))
+
+-- a row, after the earlier ones
+unfoldable pub readRow : List Row → Reader Row
+readRow earlier = do
+  h ← one (rowLine earlier)
+  members ← many (h .count) (λ before. one (memberLine earlier h before)) []
+  give (record { kind = h .kind; members = members })

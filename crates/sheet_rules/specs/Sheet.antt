@@ -1,0 +1,78 @@
+-- What a sheet says, as a value: rows, forms and main (document 01, The sheet). Stands on the shared types alone.
+use Prim.Native.Nat.{ℕ, suc, _+_}
+use mathlib.Core.List.{List, [], _∷_}
+use lib.ListN.{length, getD}
+use Rattle.sheet_rules.specs.declared.Kind.{Kind}
+use Rattle.sheet_rules.specs.declared.Kind.the-variants.{Pure}
+use Rattle.sheet_rules.specs.declared.Member.{Member}
+use Rattle.sheet_rules.specs.declared.Member.the-variants.{Field}
+
+-- a type row: pure or resource, and its members by ascending name; rows are numbered from 0
+pub record Row : Type 0 where
+  pub kind : Kind
+  pub members : List Member
+
+-- one instruction; each fills the next slot of its frame
+pub data Instr : Type 0 where
+  -- `new=F,s..`: an object of form F, with a slot for each kept value
+  new : ℕ → List ℕ → Instr
+  -- `call=s,N,a`: method N of slot s, with slot a
+  call : ℕ → ℕ → ℕ → Instr
+  -- `get=N`: the own object's field N
+  get : ℕ → Instr
+  -- `put=N,s`: the own object's field N becomes slot s
+  put : ℕ → ℕ → Instr
+  -- `copy=s`: slot s
+  copy : ℕ → Instr
+
+-- what a form has for a member of its row: the kept value that a field starts as, or a method's body
+pub data Part : Type 0 where
+  init : ℕ → Part
+  body : List Instr → Part
+
+-- a form: its type row, the rows of its kept values, and a part for each member of its row, in order
+pub record Form : Type 0 where
+  pub row : ℕ
+  pub keeps : List ℕ
+  pub parts : List Part
+
+-- a sheet: its rows, its forms and main's instructions
+pub record Sheet : Type 0 where
+  pub rows : List Row
+  pub forms : List Form
+  pub main : List Instr
+
+-- what look-ups give for a number that is not there; reading refuses such numbers (Turned away, 7)
+abbrev pub noRow : Row
+noRow = record { kind = Pure; members = [] }
+
+abbrev pub noMember : Member
+noMember = Field 0 0
+
+abbrev pub noForm : Form
+noForm = record { row = 0; keeps = []; parts = [] }
+
+-- the row of a number
+abbrev pub rowAt : List Row → ℕ → Row
+rowAt rows a = getD rows a noRow
+
+-- the form of a number
+abbrev pub formAt : Sheet → ℕ → Form
+formAt s f = getD (s .forms) f noForm
+
+-- the row of the form of a number
+abbrev pub rowOfForm : Sheet → ℕ → Row
+rowOfForm s f = rowAt (s .rows) ((formAt s f) .row)
+
+-- how many instructions stand in a part, in a list of parts, in a list of forms
+abbrev pub sizeOfPart : Part → ℕ
+sizeOfPart (init k) = 0
+sizeOfPart (body is) = length is
+
+unfoldable pub sizeOfParts : List Part → ℕ
+sizeOfParts [] = 0
+sizeOfParts (p ∷ ps) = sizeOfPart p + sizeOfParts ps
+
+unfoldable pub sizeOfForms : List Form → ℕ
+sizeOfForms [] = 0
+sizeOfForms (f ∷ fs) = sizeOfParts (f .parts) + sizeOfForms fs

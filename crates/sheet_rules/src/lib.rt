@@ -1,0 +1,68 @@
+// The types that the rules and the code share. The rules are in specs/: limits, sheet, keys, lines, reading, answers.
+
+// K of a row: 0 pure, 1 resource.
+pub enum Kind {
+    Pure,
+    Resource,
+}
+
+// One member of a row.
+pub enum Member {
+    Method {
+        name: u16,
+        argument: u16,
+        result: u16,
+    },
+    Field {
+        name: u16,
+        row: u16,
+    },
+}
+
+// The key of a line. `Row` is spelled `type`; `Unknown` is any other word, and may stand nowhere.
+pub enum Key {
+    Types,
+    Row,
+    Def,
+    Var,
+    Forms,
+    Form,
+    Keep,
+    Init,
+    Body,
+    Main,
+    New,
+    Call,
+    Get,
+    Put,
+    Copy,
+    Unknown,
+}
+
+// Why a call is refused, in the order of the paper's numbers 1 to 11.
+pub enum Reason {
+    BufferTooShort,
+    TextTooLong,
+    Malformed,
+    OutOfLimit,
+    NotAscending,
+    DuplicateRow,
+    NotDefined,
+    ImpureForm,
+    NoSuchMember,
+    Misfit,
+    NoHolder,
+}
+
+// The judgement of a sheet: accepted, or refused with the reason and the line at fault.
+pub enum Verdict {
+    Accepted,
+    Refused { reason: Reason, line: u32 },
+}
+
+// Whether a row fits another: yes; no, a resource where pure is asked; no, and the lowest member name without a match.
+pub enum FitAnswer {
+    Yes,
+    WrongKind,
+    Unmet { name: u16 },
+}

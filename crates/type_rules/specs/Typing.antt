@@ -1,0 +1,219 @@
+-- The typing verdict: a list with the fault, if any, of each line from the first `form` line on, and the first of these
+-- (document 01, Fit and typing; Turned away, 8 to 10). Stands on Fit and on the sheet; no rule looks at bytes.
+use Prim.Native.Nat.{ℕ, zero, suc, _+_}
+use mathlib.Core.Bool.{Bool, true, false, not, cond, _&&_, _||_}
+use mathlib.Core.List.{List, [], _∷_, _++_}
+use mathlib.Core.Option.{Option, none, some}
+use lib.Dec.{eqb, ltb}
+use lib.ListN.{length, getD}
+use Rattle.sheet_rules.specs.declared.Kind.{Kind}
+use Rattle.sheet_rules.specs.declared.Kind.the-variants.{Pure, Resource}
+use Rattle.sheet_rules.specs.declared.Member.{Member}
+use Rattle.sheet_rules.specs.declared.Member.the-variants.{Method, Field}
+use Rattle.sheet_rules.specs.declared.Reason.{Reason}
+use Rattle.sheet_rules.specs.declared.Reason.the-variants.{ImpureForm, NoSuchMember, Misfit}
+use Rattle.sheet_rules.specs.declared.Verdict.{Verdict}
+use Rattle.sheet_rules.specs.declared.Verdict.the-variants.{Accepted, Refused}
+use Rattle.sheet_rules.specs.Sheet.{Row, Instr, new, call, get, put, copy, Part, init, body, Form, Sheet, noMember, rowAt, formAt, rowOfForm}
+use Rattle.sheet_rules.specs.Reading.{Meaning, readable, unreadable, meaning}
+use Rattle.type_rules.specs.Fit.{fits}
+
+-- LOOKING UP
+
+-- a method's argument row and result row
+pub record Signature : Type 0 where
+  pub argument : ℕ
+  pub result : ℕ
+
+-- method n among members
+unfoldable pub methodIn : List Member → ℕ → Option Signature
+methodIn [] n = none
+methodIn (Method m a r ∷ xs) n = cond (eqb m n) (some (record { argument = a; result = r })) (methodIn xs n)
+methodIn (Field m r ∷ xs) n = methodIn xs n
+
+-- the row of field n among members
+unfoldable pub fieldIn : List Member → ℕ → Option ℕ
+fieldIn [] n = none
+fieldIn (Field m r ∷ xs) n = cond (eqb m n) (some r) (fieldIn xs n)
+fieldIn (Method m a r ∷ xs) n = fieldIn xs n
+
+-- the members of row number a
+abbrev pub membersAt : Sheet → ℕ → List Member
+membersAt s a = (rowAt (s .rows) a) .members
+
+-- the own object's row in a body; main has none
+abbrev pub Own : Type 0
+Own = Option ℕ
+
+-- the row of the own object's field n; fields are reached only by their own object's bodies, so main reaches none
+abbrev pub ownField : Sheet → Own → ℕ → Option ℕ
+ownField s none n = none
+ownField s (some a) n = fieldIn (membersAt s a) n
+
+-- THE ROW OF EACH SLOT
+
+-- the row that a look-up found; row 0 stands in where it found none, which is refused before anything looks at it
+abbrev pub resultOf : Option Signature → ℕ
+resultOf none = 0
+resultOf (some m) = m .result
+
+abbrev pub rowOr0 : Option ℕ → ℕ
+rowOr0 none = 0
+rowOr0 (some r) = r
+
+-- the row of the slot that an instruction fills, after slots of the given rows
+abbrev pub slotRow : Sheet → Own → List ℕ → Instr → ℕ
+slotRow s own rows (new f ss) = (formAt s f) .row
+slotRow s own rows (call o n a) = resultOf (methodIn (membersAt s (getD rows o 0)) n)
+slotRow s own rows (get n) = rowOr0 (ownField s own n)
+slotRow s own rows (put n v) = rowOr0 (ownField s own n)
+slotRow s own rows (copy v) = getD rows v 0
+
+-- the rows of all slots after some instructions
+unfoldable pub slotRows : Sheet → Own → List ℕ → List Instr → List ℕ
+slotRows s own rows [] = rows
+slotRows s own rows (i ∷ is) = slotRows s own (rows ++ (slotRow s own rows i ∷ [])) is
+
+-- the rows of a body's first slots: the own object, the argument, the kept values
+abbrev pub bodyRows : Form → ℕ → List ℕ
+bodyRows f argument = f .row ∷ argument ∷ f .keeps
+
+-- main's first slots: none is filled at the start
+abbrev pub mainRows : Sheet → List ℕ
+mainRows s = []
+
+-- THE FAULT OF A LINE
+
+-- a line's fault, if it has one
+abbrev pub Fault : Type 0
+Fault = Option Reason
+
+-- a refusal where a test fails
+abbrev pub unless : Bool → Reason → Fault
+unless true r = none
+unless false r = some r
+
+-- the first of two faults of one line
+abbrev pub firstOf : Fault → Fault → Fault
+firstOf none g = g
+firstOf (some r) g = some r
+
+-- values of the given rows, slot by slot, fit the declared rows, and there are as many
+unfoldable pub allFit : (ℕ → ℕ → Bool) → List ℕ → List ℕ → List ℕ → Bool
+allFit fit rows [] [] = true
+allFit fit rows [] (b ∷ bs) = false
+allFit fit rows (v ∷ vs) [] = false
+allFit fit rows (v ∷ vs) (b ∷ bs) = fit (getD rows v 0) b && allFit fit rows vs bs
+
+-- method n must be there, and a value of row a must fit its argument
+abbrev pub callFault : (ℕ → ℕ → Bool) → Option Signature → ℕ → Fault
+callFault fit none a = some NoSuchMember
+callFault fit (some m) a = unless (fit a (m .argument)) Misfit
+
+-- the field must be there
+abbrev pub getFault : Option ℕ → Fault
+getFault none = some NoSuchMember
+getFault (some r) = none
+
+-- the field must be there, and a value of row a must fit it
+abbrev pub putFault : (ℕ → ℕ → Bool) → Option ℕ → ℕ → Fault
+putFault fit none a = some NoSuchMember
+putFault fit (some r) a = unless (fit a r) Misfit
+
+-- the fault of an instruction, after slots of the given rows
+abbrev pub instrFault : (ℕ → ℕ → Bool) → Sheet → Own → List ℕ → Instr → Fault
+instrFault fit s own rows (new f ss) = unless (allFit fit rows ss ((formAt s f) .keeps)) Misfit
+instrFault fit s own rows (call o n a) = callFault fit (methodIn (membersAt s (getD rows o 0)) n) (getD rows a 0)
+instrFault fit s own rows (get n) = getFault (ownField s own n)
+instrFault fit s own rows (put n v) = putFault fit (ownField s own n) (getD rows v 0)
+instrFault fit s own rows (copy v) = none
+
+-- a body's value, of row a, must fit the declared result, which is judged on its last instruction's line; main declares none
+abbrev pub resultFault : (ℕ → ℕ → Bool) → Option ℕ → ℕ → List Instr → Fault
+resultFault fit none a is = none
+resultFault fit (some r) a [] = unless (fit a r) Misfit
+resultFault fit (some r) a (i ∷ is) = none
+
+-- the lines of some instructions
+unfoldable pub instrFaults : (ℕ → ℕ → Bool) → Sheet → Own → Option ℕ → List ℕ → List Instr → List Fault
+instrFaults fit s own result rows [] = []
+instrFaults fit s own result rows (i ∷ is) =
+    firstOf (instrFault fit s own rows i) (resultFault fit result (slotRow s own rows i) is)
+    ∷ instrFaults fit s own result (rows ++ (slotRow s own rows i ∷ [])) is
+
+-- the lines of a form's part for a member: `init`, or `body` and its instructions; reading gives each member its own kind
+abbrev pub partFaults : (ℕ → ℕ → Bool) → Sheet → Form → Member → Part → List Fault
+partFaults fit s f (Field n r) (init k) = unless (fit (getD (f .keeps) k 0) r) Misfit ∷ []
+partFaults fit s f (Method n a r) (body is) = none ∷ instrFaults fit s (some (f .row)) (some r) (bodyRows f a) is
+partFaults fit s f (Field n r) (body is) = []
+partFaults fit s f (Method n a r) (init k) = []
+
+unfoldable pub partsFaults : (ℕ → ℕ → Bool) → Sheet → Form → List Member → List Part → List Fault
+partsFaults fit s f [] ps = []
+partsFaults fit s f (m ∷ ms) [] = []
+partsFaults fit s f (m ∷ ms) (p ∷ ps) = partFaults fit s f m p ++ partsFaults fit s f ms ps
+
+abbrev pub isPure : Kind → Bool
+isPure Pure = true
+isPure Resource = false
+
+unfoldable pub hasField : List Member → Bool
+hasField [] = false
+hasField (Method n a r ∷ xs) = hasField xs
+hasField (Field n r ∷ xs) = true
+
+-- a form of a pure row has no fields
+abbrev pub formFault : Row → Fault
+formFault a = unless (not (isPure (a .kind) && hasField (a .members))) ImpureForm
+
+-- and all its kept rows are pure
+abbrev pub keepFault : Sheet → Row → ℕ → Fault
+keepFault s a k = unless (not (isPure (a .kind) && not (isPure ((rowAt (s .rows) k) .kind)))) ImpureForm
+
+unfoldable pub keepFaults : Sheet → Row → List ℕ → List Fault
+keepFaults s a [] = []
+keepFaults s a (k ∷ ks) = keepFault s a k ∷ keepFaults s a ks
+
+-- the lines of a form
+abbrev pub formFaults : (ℕ → ℕ → Bool) → Sheet → Form → List Fault
+formFaults fit s f =
+    formFault (rowAt (s .rows) (f .row))
+    ∷ (keepFaults s (rowAt (s .rows) (f .row)) (f .keeps) ++ partsFaults fit s f (membersAt s (f .row)) (f .parts))
+
+unfoldable pub formsFaults : (ℕ → ℕ → Bool) → Sheet → List Form → List Fault
+formsFaults fit s [] = []
+formsFaults fit s (f ∷ fs) = formFaults fit s f ++ formsFaults fit s fs
+
+-- all lines from the first `form` line on: forms, the `main` line, main's instructions
+unfoldable pub lineFaults : (ℕ → ℕ → Bool) → Sheet → List Fault
+lineFaults fit s = formsFaults fit s (s .forms) ++ (none ∷ instrFaults fit s none none (mainRows s) (s .main))
+
+-- THE VERDICT
+
+-- the first line at fault, of lines numbered from n
+unfoldable pub firstFault : ℕ → List Fault → Verdict
+firstFault n [] = Accepted
+firstFault n (none ∷ fs) = firstFault (suc n) fs
+firstFault n (some r ∷ fs) = Refused r n
+
+-- how many lines some rows take: a `type` line each, and a line for each member
+unfoldable pub rowLines : List Row → ℕ
+rowLines [] = 0
+rowLines (a ∷ bs) = suc (length (a .members)) + rowLines bs
+
+-- the number of the first line after the `types` line, the rows and the `forms` line
+abbrev pub firstFormLine : Sheet → ℕ
+firstFormLine s = rowLines (s .rows) + 3
+
+-- the typing verdict on a sheet that was read
+unfoldable pub typing : Sheet → Verdict
+typing s = firstFault (firstFormLine s) (lineFaults (fits (s .rows)) s)
+
+-- the verdict on what reading gave: only a sheet that was read whole is typed
+abbrev pub verdictOn : Meaning → Verdict
+verdictOn (readable s) = typing s
+verdictOn (unreadable r n) = Refused r n
+
+-- the verdict on a text
+unfoldable pub verdict : List ℕ → Verdict
+verdict text = verdictOn (meaning text)
