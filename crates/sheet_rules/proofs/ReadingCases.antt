@@ -76,6 +76,7 @@ cases =
     ∷ gives (textOf ("types=2" ∷ "type=0,0" ∷ "type=0,2" ∷ "def=5,0,0" ∷ "def=5,1,0" ∷ [])) 5 5
     ∷ gives (P-with 6 "def=1,0,0") 6 6
     ∷ gives (P-with 3 "type=0,0") 6 3
+    ∷ gives (textOf ("types=2" ∷ "type=0,0" ∷ "type=1,0" ∷ "forms=1" ∷ "form=0,0" ∷ "main=1" ∷ "new=0" ∷ [])) 0 0
     -- rows, forms, kept values and slots that do not exist
     ∷ gives (P-with 4 "def=1,1,0") 7 4
     ∷ gives (P-with 9 "form=3,0") 7 9
