@@ -1,0 +1,166 @@
+-- A word of letters and its number in base 27: the number tells the word, so that the key of a code is the key of its word; and
+-- a word that no key has. Assumes nothing.
+use Prim.Native.Nat.{ℕ, zero, suc, _+_, _*_, _-_, _≤_, _<_}
+use native.Mathlib.Omega.{arith}
+use native.Mathlib.Decide.{decLe}
+use mathlib.Core.Path.{_≡_, refl, sym, ap, _∙_, subst}
+use mathlib.Core.Bool.{Bool, true, false, cond, _&&_}
+use mathlib.Core.List.{List, [], _∷_, _++_, reverse, reverseAux, reverse-reverse}
+use lib.Dec.{T, eqb, leb, eqb→eq, eqb-refl, leb→le}
+use lib.ListN.{length}
+use borrow.Author.Tests.{eq-eqb}
+use Rattle.lists.proofs.Tests.{and-left, and-right, and-intro, T→true, T-ext}
+use Rattle.sheet_rules.specs.declared.Key.{Key}
+use Rattle.sheet_rules.specs.declared.Key.the-variants.{Types, Row, Def, Var, Forms, Form, Keep, Init, Body, Main, New, Call, Get, Put, Copy, Unknown}
+use Rattle.sheet_rules.specs.Keys.{bytes, spelling, allKeys, sameBytes, keyAmong, keyOf}
+use Rattle.lexer.specs.Scan.{wordCode, codeAmong, keyOfCode}
+
+-- small letters
+
+abbrev pub isLetter : ℕ → Bool
+isLetter b = leb 97 b && leb b 122
+
+unfoldable pub allLetters : List ℕ → Bool
+allLetters [] = true
+allLetters (b ∷ bs) = isLetter b && allLetters bs
+
+pub letter-low : (b : ℕ) → T (isLetter b) → 97 ≤ b
+letter-low b t = leb→le 97 b (and-left (leb 97 b) (leb b 122) t)
+
+pub letter-high : (b : ℕ) → T (isLetter b) → b ≤ 122
+letter-high b t = leb→le b 122 (and-right (leb 97 b) (leb b 122) t)
+
+-- every key is spelled by at most five letters
+spelled : (k : Key) → T (allLetters (spelling k) && leb (length (spelling k)) 5)
+unfolding spelling bytes allLetters
+spelled Types = tt
+spelled Row = tt
+spelled Def = tt
+spelled Var = tt
+spelled Forms = tt
+spelled Form = tt
+spelled Keep = tt
+spelled Init = tt
+spelled Body = tt
+spelled Main = tt
+spelled New = tt
+spelled Call = tt
+spelled Get = tt
+spelled Put = tt
+spelled Copy = tt
+spelled Unknown = tt
+
+pub spelling-letters : (k : Key) → T (allLetters (spelling k))
+spelling-letters k = and-left (allLetters (spelling k)) (leb (length (spelling k)) 5) (spelled k)
+
+pub spelling-short : (k : Key) → length (spelling k) ≤ 5
+spelling-short k = leb→le (length (spelling k)) 5 (and-right (allLetters (spelling k)) (leb (length (spelling k)) 5) (spelled k))
+
+-- the same bytes are the same word
+
+sameBytes-eq : (u w : List ℕ) → T (sameBytes u w) → u ≡ w
+unfolding sameBytes
+sameBytes-eq [] [] t = refl
+sameBytes-eq [] (c ∷ w) t = absurd t
+sameBytes-eq (b ∷ u) [] t = absurd t
+sameBytes-eq (b ∷ u) (c ∷ w) t =
+    let p : b ≡ c = eqb→eq b c (and-left (eqb b c) (sameBytes u w) t) in
+    let q : u ≡ w = sameBytes-eq u w (and-right (eqb b c) (sameBytes u w) t) in
+    λ i. p i ∷ q i
+
+sameBytes-refl : (u : List ℕ) → T (sameBytes u u)
+unfolding sameBytes
+sameBytes-refl [] = tt
+sameBytes-refl (b ∷ u) = and-intro (eqb b b) (sameBytes u u) (eqb-refl b) (sameBytes-refl u)
+
+-- a word that no key has
+
+keyAmong-unknown : (ks : List Key) (w : List ℕ) → ((k : Key) → spelling k ≡ w → ⊥) → keyAmong ks w ≡ Unknown
+unfolding keyAmong
+keyAmong-unknown [] w h = refl
+keyAmong-unknown (k ∷ ks) w h = go (sameBytes (spelling k) w) refl (keyAmong-unknown ks w h)
+  where
+    go : (b : Bool) → sameBytes (spelling k) w ≡ b → keyAmong ks w ≡ Unknown → cond b k (keyAmong ks w) ≡ Unknown
+    go true e r = absurd (h k (sameBytes-eq (spelling k) w (subst T (sym e) tt)))
+    go false e r = r
+
+pub keyOf-no-letters : (w : List ℕ) → (T (allLetters w) → ⊥) → keyOf w ≡ Unknown
+keyOf-no-letters w h = keyAmong-unknown allKeys w (λ k e. h (subst (λ (u : List ℕ). T (allLetters u)) e (spelling-letters k)))
+
+pub keyOf-long : (w : List ℕ) → 5 < length w → keyOf w ≡ Unknown
+keyOf-long w h =
+    keyAmong-unknown allKeys w (λ k e. let s : length w ≤ 5 = subst (λ (u : List ℕ). length u ≤ 5) e (spelling-short k) in omega arith)
+
+-- the number of a word, last letter first
+
+revCode : List ℕ → ℕ
+revCode [] = 0
+revCode (b ∷ bs) = revCode bs * 27 + (b - 96)
+
+wordCode-rev : (w acc : List ℕ) → wordCode (revCode acc) w ≡ revCode (reverseAux w acc)
+unfolding wordCode revCode
+wordCode-rev [] acc = refl
+wordCode-rev (b ∷ w) acc = wordCode-rev w (b ∷ acc)
+
+letters-reverseAux : (w acc : List ℕ) → T (allLetters w) → T (allLetters acc) → T (allLetters (reverseAux w acc))
+unfolding allLetters
+letters-reverseAux [] acc s t = t
+letters-reverseAux (b ∷ w) acc s t =
+    letters-reverseAux w (b ∷ acc) (and-right (isLetter b) (allLetters w) s)
+    (and-intro (isLetter b) (allLetters acc) (and-left (isLetter b) (allLetters w) s) t)
+
+digit-unique : (x y d e : ℕ) → 1 ≤ d → d ≤ 26 → 1 ≤ e → e ≤ 26 → x * 27 + d ≡ y * 27 + e → (x ≡ y) × (d ≡ e)
+digit-unique x y d e d1 d2 e1 e2 p = go (decLe (suc x) y) (decLe (suc y) x)
+  where
+    go : Dec (suc x ≤ y) → Dec (suc y ≤ x) → (x ≡ y) × (d ≡ e)
+    go (yes q) r = absurd (omega arith)
+    go (no q) (yes r) = absurd (omega arith)
+    go (no q) (no r) = (omega arith, omega arith)
+
+revCode-unique : (u w : List ℕ) → T (allLetters u) → T (allLetters w) → revCode u ≡ revCode w → u ≡ w
+unfolding revCode allLetters
+revCode-unique [] [] s t p = refl
+revCode-unique [] (c ∷ w) s t p =
+    absurd (let h : 97 ≤ c = letter-low c (and-left (isLetter c) (allLetters w) t) in omega arith)
+revCode-unique (b ∷ u) [] s t p =
+    absurd (let h : 97 ≤ b = letter-low b (and-left (isLetter b) (allLetters u) s) in omega arith)
+revCode-unique (b ∷ u) (c ∷ w) s t p =
+    let lb : 97 ≤ b = letter-low b (and-left (isLetter b) (allLetters u) s) in
+    let hb : b ≤ 122 = letter-high b (and-left (isLetter b) (allLetters u) s) in
+    let lc : 97 ≤ c = letter-low c (and-left (isLetter c) (allLetters w) t) in
+    let hc : c ≤ 122 = letter-high c (and-left (isLetter c) (allLetters w) t) in
+    let r : (revCode u ≡ revCode w) × (b - 96 ≡ c - 96) =
+    digit-unique (revCode u) (revCode w) (b - 96) (c - 96) (omega arith) (omega arith) (omega arith) (omega arith) p in
+    let q : u ≡ w = revCode-unique u w (and-right (isLetter b) (allLetters u) s) (and-right (isLetter c) (allLetters w) t) (r .0) in
+    let e : b ≡ c = omega (arith, r .1) in
+    λ i. e i ∷ q i
+
+-- two words of letters with the same number are the same
+pub wordCode-unique : (u w : List ℕ) → T (allLetters u) → T (allLetters w) → wordCode 0 u ≡ wordCode 0 w → u ≡ w
+unfolding revCode allLetters
+wordCode-unique u w s t p =
+    sym (reverse-reverse u)
+    ∙ ap reverse
+    (revCode-unique (reverse u) (reverse w) (letters-reverseAux u [] s tt) (letters-reverseAux w [] t tt)
+    (sym (wordCode-rev u []) ∙ p ∙ wordCode-rev w []))
+    ∙ reverse-reverse w
+
+-- the key of a word's number is the key of the word
+
+codeAmong-word : (ks : List Key) (w : List ℕ) → T (allLetters w) → codeAmong ks (wordCode 0 w) ≡ keyAmong ks w
+unfolding codeAmong keyAmong
+codeAmong-word [] w t = refl
+codeAmong-word (k ∷ ks) w t =
+    ap (λ (b : Bool). cond b k (codeAmong ks (wordCode 0 w))) same ∙ ap (cond (sameBytes (spelling k) w) k) (codeAmong-word ks w t)
+  where
+    same : eqb (wordCode 0 w) (wordCode 0 (spelling k)) ≡ sameBytes (spelling k) w
+    same =
+        T-ext (eqb (wordCode 0 w) (wordCode 0 (spelling k))) (sameBytes (spelling k) w)
+        (λ p. subst (λ (u : List ℕ). T (sameBytes (spelling k) u))
+        (sym (wordCode-unique w (spelling k) t (spelling-letters k) (eqb→eq (wordCode 0 w) (wordCode 0 (spelling k)) p))) (sameBytes-refl (spelling k)))
+        (λ p. subst (λ (u : List ℕ). T (eqb (wordCode 0 u) (wordCode 0 (spelling k)))) (sameBytes-eq (spelling k) w p)
+        (eqb-refl (wordCode 0 (spelling k))))
+
+pub keyOfCode-word : (w : List ℕ) → T (allLetters w) → keyOfCode (wordCode 0 w) ≡ keyOf w
+unfolding keyOfCode
+keyOfCode-word w t = codeAmong-word allKeys w t

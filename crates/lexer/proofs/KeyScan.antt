@@ -1,0 +1,211 @@
+-- Scanning a line's key, byte by byte: it finds the letters before the equal sign, or loses a line that no place takes.
+-- Assumes nothing.
+use Prim.Native.Nat.{ℕ, zero, suc, _+_, _*_, _-_, _≤_, _<_}
+use native.Mathlib.Omega.{arith}
+use native.Mathlib.Decide.{decLe}
+use mathlib.Core.Path.{_≡_, refl, sym, ap, _∙_, subst}
+use mathlib.Core.Bool.{Bool, true, false, cond, _&&_}
+use mathlib.Core.List.{List, [], _∷_, _++_, append-nil, append-assoc}
+use lib.Dec.{T, eqb, leb, ltb}
+use lib.ListN.{length, length-append}
+use lib.Seq.{append-snoc}
+use borrow.Author.Tests.{le-leb, ne-eqb, eq-eqb, ltb-true, ltb-false, eqb-true, eqb-false}
+use Rattle.lists.proofs.Tests.{and-left, and-right, and-intro}
+use Rattle.sheet_rules.specs.declared.Key.{Key}
+use Rattle.sheet_rules.specs.Keys.{keyOf}
+use Rattle.sheet_rules.specs.Lines.{newline, comma, equals, inFront, splitOn, allDecimals, values, Line, line, torn, numbered, keyed, lineOf}
+use Rattle.lexer.specs.declared.KeyRead.{KeyRead}
+use Rattle.lexer.specs.Scan.{codeLimit, onLetter, keyScan, wordCode}
+use Rattle.lexer.proofs.DecimalLaws.{glue, glue-step, splitOn-other, Lacks}
+use Rattle.lexer.proofs.NumberScan.{split-form}
+use Rattle.lexer.proofs.KeyLaws.{isLetter, allLetters, letter-low, letter-high, keyOf-no-letters, keyOf-long}
+
+-- a line that no place takes: not in the sheet's shape, of an unknown key, or with more numbers than any key has
+pub data Hopeless : Line → Type 0 where
+  is-torn : Hopeless torn
+  unknown : {k : Key} {ns : List ℕ} → k ≡ Key.Unknown → Hopeless (line k ns)
+  too-many : {k : Key} {ns : List ℕ} → 9 < length ns → Hopeless (line k ns)
+
+-- a first piece that spells no key
+keyed-hopeless : (w : List ℕ) (ps : List (List ℕ)) → keyOf w ≡ Key.Unknown → Hopeless (keyed (w ∷ ps))
+unfolding keyed numbered
+keyed-hopeless w [] e = is-torn
+keyed-hopeless w (v ∷ []) e = go (allDecimals (splitOn comma v))
+  where
+    go : (b : Bool) → Hopeless (cond b (line (keyOf w) (values (splitOn comma v))) torn)
+    go true = unknown e
+    go false = is-torn
+keyed-hopeless w (v ∷ u ∷ ps) e = is-torn
+
+-- letters
+
+letters-front : (u w : List ℕ) → T (allLetters (u ++ w)) → T (allLetters u)
+unfolding allLetters
+letters-front [] w t = tt
+letters-front (b ∷ u) w t =
+    and-intro (isLetter b) (allLetters u) (and-left (isLetter b) (allLetters (u ++ w)) t)
+    (letters-front u w (and-right (isLetter b) (allLetters (u ++ w)) t))
+
+letters-last : (u : List ℕ) (b : ℕ) → T (allLetters (u ++ (b ∷ []))) → T (isLetter b)
+unfolding allLetters
+letters-last [] b t = and-left (isLetter b) true t
+letters-last (c ∷ u) b t = letters-last u b (and-right (isLetter c) (allLetters (u ++ (b ∷ []))) t)
+
+letters-snoc : (u : List ℕ) (b : ℕ) → T (allLetters u) → T (isLetter b) → T (allLetters (u ++ (b ∷ [])))
+unfolding allLetters
+letters-snoc [] b s t = and-intro (isLetter b) true t tt
+letters-snoc (c ∷ u) b s t =
+    and-intro (isLetter c) (allLetters (u ++ (b ∷ []))) (and-left (isLetter c) (allLetters u) s)
+    (letters-snoc u b (and-right (isLetter c) (allLetters u) s) t)
+
+-- the pieces of a line that begins with letters
+
+glue-front : (b : ℕ) (w : List ℕ) (ps : List (List ℕ)) → glue (b ∷ w) ps ≡ inFront b (glue w ps)
+unfolding glue
+glue-front b w [] = refl
+glue-front b w (p ∷ ps) = refl
+
+pub split-letters : (w x : List ℕ) → T (allLetters w) → splitOn equals (w ++ x) ≡ glue w (splitOn equals x)
+unfolding allLetters glue
+split-letters [] x t = let r = split-form equals x in r .2 ∙ sym (ap (glue []) (r .2))
+split-letters (b ∷ w) x t =
+    let l : 97 ≤ b = letter-low b (and-left (isLetter b) (allLetters w) t) in
+    splitOn-other equals b (w ++ x) (λ e. omega arith)
+    ∙ ap (inFront b) (split-letters w x (and-right (isLetter b) (allLetters w) t))
+    ∙ sym (glue-front b w (splitOn equals x))
+
+glue-form : (w : List ℕ) (c : ℕ) (x : List ℕ) → (p : List ℕ) × (ps : List (List ℕ)) × (glue w (splitOn c x) ≡ (w ++ p) ∷ ps)
+unfolding glue
+glue-form w c x = let r = split-form c x in (r .0, r .1, ap (glue w) (r .2))
+
+-- a line whose key goes on after letters w with a byte b that is no equal sign, where no such word is a key
+lost-word : (w : List ℕ) (b : ℕ) (q : List ℕ) → T (allLetters w) → (b ≡ equals → ⊥)
+    → ((p : List ℕ) → keyOf (w ++ (b ∷ []) ++ p) ≡ Key.Unknown) → Hopeless (lineOf (w ++ (b ∷ q)))
+unfolding lineOf
+lost-word w b q t ne h =
+    let r = glue-form (w ++ (b ∷ [])) equals q in
+    subst (λ (ps : List (List ℕ)). Hopeless (keyed ps))
+    (sym (split-letters w (b ∷ q) t ∙ ap (glue w) (splitOn-other equals b q ne) ∙ glue-step w b (splitOn equals q) ∙ r .2))
+    (keyed-hopeless (w ++ (b ∷ []) ++ r .0) (r .1) (h (r .0)))
+
+-- the first letter of a word, and the others
+
+head-high : (b : ℕ) (w : List ℕ) → T (allLetters (b ∷ w)) → b ≤ 122
+unfolding allLetters
+head-high b w t = letter-high b (and-left (isLetter b) (allLetters w) t)
+
+head-low : (b : ℕ) (w : List ℕ) → T (allLetters (b ∷ w)) → 97 ≤ b
+unfolding allLetters
+head-low b w t = letter-low b (and-left (isLetter b) (allLetters w) t)
+
+others : (b : ℕ) (w : List ℕ) → T (allLetters (b ∷ w)) → T (allLetters w)
+unfolding allLetters
+others b w t = and-right (isLetter b) (allLetters w) t
+
+-- four letters leave room for a fifth, and five leave none
+
+code-room : (w : List ℕ) → T (allLetters w) → length w ≤ 4 → wordCode 0 w < codeLimit
+unfolding wordCode
+code-room [] t h = omega arith
+code-room (a1 ∷ []) t h = let x1 = head-high a1 [] t in omega arith
+code-room (a1 ∷ a2 ∷ []) t h = let x1 = head-high a1 _ t in let x2 = head-high a2 [] (others a1 _ t) in omega arith
+code-room (a1 ∷ a2 ∷ a3 ∷ []) t h =
+    let x1 = head-high a1 _ t in
+    let x2 = head-high a2 _ (others a1 _ t) in
+    let x3 = head-high a3 [] (others a2 _ (others a1 _ t)) in
+    omega arith
+code-room (a1 ∷ a2 ∷ a3 ∷ a4 ∷ []) t h =
+    let x1 = head-high a1 _ t in
+    let x2 = head-high a2 _ (others a1 _ t) in
+    let x3 = head-high a3 _ (others a2 _ (others a1 _ t)) in
+    let x4 = head-high a4 [] (others a3 _ (others a2 _ (others a1 _ t))) in
+    omega arith
+code-room (a1 ∷ a2 ∷ a3 ∷ a4 ∷ a5 ∷ w) t h = absurd (omega arith)
+
+code-grows : (c : ℕ) (w : List ℕ) → c ≤ wordCode c w
+unfolding wordCode
+code-grows c [] = omega arith
+code-grows c (b ∷ w) = omega (arith, code-grows (c * 27 + (b - 96)) w)
+
+code-full : (w : List ℕ) → T (allLetters w) → 5 ≤ length w → codeLimit ≤ wordCode 0 w
+unfolding wordCode
+code-full [] t h = absurd (omega arith)
+code-full (a1 ∷ []) t h = absurd (omega arith)
+code-full (a1 ∷ a2 ∷ []) t h = absurd (omega arith)
+code-full (a1 ∷ a2 ∷ a3 ∷ []) t h = absurd (omega arith)
+code-full (a1 ∷ a2 ∷ a3 ∷ a4 ∷ []) t h = absurd (omega arith)
+code-full (a1 ∷ a2 ∷ a3 ∷ a4 ∷ a5 ∷ w) t h =
+    let x1 = head-low a1 _ t in
+    omega (arith, code-grows (((((0 * 27 + (a1 - 96)) * 27 + (a2 - 96)) * 27 + (a3 - 96)) * 27 + (a4 - 96)) * 27 + (a5 - 96)) w)
+
+-- the result of scanning a key, after letters w, in a line that goes on with q
+pub data KeyScanned (w q : List ℕ) (i : ℕ) : KeyRead → Type 0 where
+  letters : (u v : List ℕ) {c j : ℕ} → w ++ q ≡ u ++ (equals ∷ v) → T (allLetters u) → c ≡ wordCode 0 u
+      → j + length w ≡ i + suc (length u) → KeyScanned w q i (KeyRead.Letters c j)
+  no-key : Hopeless (lineOf (w ++ q)) → KeyScanned w q i KeyRead.Torn
+
+wordCode-snoc : (c : ℕ) (w : List ℕ) (b : ℕ) → wordCode c (w ++ (b ∷ [])) ≡ wordCode c w * 27 + (b - 96)
+unfolding wordCode
+wordCode-snoc c [] b = refl
+wordCode-snoc c (a ∷ w) b = wordCode-snoc (c * 27 + (a - 96)) w b
+
+length-snoc : (w : List ℕ) (b : ℕ) → length (w ++ (b ∷ [])) ≡ suc (length w)
+length-snoc w b = rw length-append (omega arith)
+
+-- a letter more of the key in progress: what is known of the rest carries over
+onward : (w q : List ℕ) (b i : ℕ) (r : KeyRead) → KeyScanned (w ++ (b ∷ [])) q (i + 1) r → KeyScanned w (b ∷ q) i r
+onward w q b i (KeyRead.Letters c j) (letters u v e t p h) =
+    let z : j + length w ≡ i + suc (length u) = omega (arith, length-snoc w b) in
+    letters u v (sym (append-snoc w b q) ∙ e) t p z
+onward w q b i KeyRead.Torn (no-key h) = no-key (subst (λ (l : List ℕ). Hopeless (lineOf l)) (append-snoc w b q) h)
+
+-- a line without an equal sign
+no-equals : (w : List ℕ) → T (allLetters w) → Hopeless (lineOf (w ++ []))
+unfolding lineOf keyed splitOn glue
+no-equals w t = subst (λ (ps : List (List ℕ)). Hopeless (keyed ps)) (sym (split-letters w [] t)) is-torn
+
+pub key-scanned : (q : List ℕ) → Lacks newline q → (rest w : List ℕ) → T (allLetters w) → length w ≤ 5 → (c i : ℕ) → c ≡ wordCode 0 w
+    → KeyScanned w q i (keyScan c i (q ++ (newline ∷ rest)))
+unfolding keyScan
+key-scanned [] l rest w t h c i e = no-key (no-equals w t)
+key-scanned (b ∷ q) l rest w t h c i e =
+    go (λ s k. key-scanned q (l .1) rest (w ++ (b ∷ [])) (letters-snoc w b t s) k (c * 27 + (b - 96)) (i + 1) next) (eqb b equals) refl (ltb b 97) refl (ltb 122 b) refl (ltb c codeLimit) refl
+  where
+    next : c * 27 + (b - 96) ≡ wordCode 0 (w ++ (b ∷ []))
+    next = ap (λ (n : ℕ). n * 27 + (b - 96)) e ∙ sym (wordCode-snoc 0 w b)
+
+    Rest : KeyRead
+    Rest = keyScan (c * 27 + (b - 96)) (i + 1) (q ++ (newline ∷ rest))
+
+    no-letter : (b ≡ equals → ⊥) → (T (isLetter b) → ⊥) → Hopeless (lineOf (w ++ (b ∷ q)))
+    no-letter ne nl =
+        lost-word w b q t ne (λ p. keyOf-no-letters (w ++ (b ∷ []) ++ p) (λ s. nl (letters-last w b (letters-front (w ++ (b ∷ [])) p s))))
+
+    go : (T (isLetter b) → length (w ++ (b ∷ [])) ≤ 5 → KeyScanned (w ++ (b ∷ [])) q (i + 1) Rest)
+        → (x1 : Bool) → eqb b equals ≡ x1 → (x2 : Bool) → ltb b 97 ≡ x2 → (x3 : Bool) → ltb 122 b ≡ x3 → (x4 : Bool) → ltb c codeLimit ≡ x4
+        → KeyScanned w (b ∷ q) i (cond x1 (KeyRead.Letters c (i + 1)) (cond x2 KeyRead.Torn (cond x3 KeyRead.Torn (cond x4 Rest KeyRead.Torn))))
+    go more true e1 x2 e2 x3 e3 x4 e4 =
+        let z : i + 1 + length w ≡ i + suc (length w) = omega arith in
+        letters w q (ap (λ (a : ℕ). w ++ (a ∷ q)) (eqb-true b equals e1)) t e z
+    go more false e1 true e2 x3 e3 x4 e4 =
+        no-key (no-letter (eqb-false b equals e1) (λ s. let y = letter-low b s in let z = ltb-true b 97 e2 in omega arith))
+    go more false e1 false e2 true e3 x4 e4 =
+        no-key (no-letter (eqb-false b equals e1) (λ s. let y = letter-high b s in let z = ltb-true 122 b e3 in omega arith))
+    go more false e1 false e2 false e3 true e4 = onward w q b i Rest (more is-letter (room (decLe (length w) 4)))
+      where
+        is-letter : T (isLetter b)
+        is-letter =
+            and-intro (leb 97 b) (leb b 122) (subst T (sym (le-leb 97 b (ltb-false b 97 e2))) tt)
+            (subst T (sym (le-leb b 122 (ltb-false 122 b e3))) tt)
+
+        room : Dec (length w ≤ 4) → length (w ++ (b ∷ [])) ≤ 5
+        room (yes p) = omega (arith, length-snoc w b)
+        room (no p) =
+            absurd (let y : codeLimit ≤ wordCode 0 w = code-full w t (omega arith) in let z = ltb-true c codeLimit e4 in omega arith)
+    go more false e1 false e2 false e3 false e4 =
+        no-key (lost-word w b q t (eqb-false b equals e1) (λ p. keyOf-long (w ++ (b ∷ []) ++ p) (long p (decLe (length w) 4))))
+      where
+        long : (p : List ℕ) → Dec (length w ≤ 4) → 5 < length (w ++ (b ∷ []) ++ p)
+        long p (yes k) =
+            absurd (let y : wordCode 0 w < codeLimit = code-room w t k in let z = ltb-false c codeLimit e4 in omega arith)
+        long p (no k) = omega (arith, length-append (w ++ (b ∷ [])) p, length-snoc w b)

@@ -1,0 +1,20 @@
+use borrow.Author.Tests.{lt-ltb, le-ltb, eq-eqb, ne-eqb, le-leb, lt-leb}
+use Rattle.lexer.proofs.end_turn.Statement.{statement}
+use Rattle.lexer.proofs.end_turn.Tie as tie
+use Rattle.lexer.proofs.end_turn.Reads as reads
+use Rattle.lexer.proofs.end_turn.Lts as lts
+
+-- src/lib.rt:60:9
+returns : tie.Need-returns
+returns c = simp (eq-eqb _ _ (c .if1 .taken))
+
+-- src/lib.rt:63:9
+returns-2 : tie.Need-returns-2
+returns-2 c = simp (ne-eqb _ _ (c .before .if1 .left), eq-eqb _ _ (c .if2 .taken))
+
+-- src/lib.rt:56:1
+returns-3 : tie.Need-returns-3
+returns-3 c = simp (ne-eqb _ _ (c .before .if1 .left), ne-eqb _ _ (c .if2 .left))
+
+pub end-turn-spec : {M : Type 1} → statement M
+end-turn-spec = tie.close (tie.spec returns returns-2 returns-3)

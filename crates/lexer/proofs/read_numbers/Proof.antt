@@ -1,0 +1,148 @@
+use borrow.Author.Needs.{needs}
+use Rattle.lexer.specs.declared.NumbersRead.{NumbersRead}
+use Prim.Native.Nat.{_+_, _-_, _≤_, _<_}
+use native.Mathlib.Omega.{arith}
+use mathlib.Core.Path.{_≡_, refl, sym, ap, _∙_}
+use lib.ListN.{length, drop, getD}
+use Rattle.lexer.specs.declared.Part.{Part}
+use Rattle.lexer.specs.declared.Numbers.{Numbers}
+use Rattle.lexer.specs.Scan.{PartFits, noNumbers, withNumber, numbersScan}
+use Rattle.lexer.proofs.ScanSteps.{numbers-more, numbers-comma, numbers-full, numbers-line, numbers-torn, numbers-end, part-fits}
+use Rattle.lexer.proofs.read_numbers.Statement.{statement}
+use Rattle.lexer.proofs.read_numbers.Tie as tie
+use Rattle.lexer.proofs.read_numbers.Reads as reads
+use Rattle.lexer.proofs.read_numbers.Lts as lts
+use Rattle.lexer.proofs.Numbers.none.Reads as none-reads
+use Rattle.lexer.proofs.Numbers.with.Reads as with-reads
+use Rattle.lexer.proofs.byte_turn.Reads as byte-turn-reads
+
+abbrev Inv-loop : tie.InvT-loop
+Inv-loop text from at₀ part₀ numbers₀ at part numbers =
+    (at ≤ length text)
+    × PartFits part
+    × (numbers .count ≤ 8)
+    × (numbersScan numbers part at (drop at text) ≡ numbersScan noNumbers Part.Empty from (drop from text))
+
+abbrev μ-loop : tie.MeasureT-loop
+μ-loop text from at₀ part₀ numbers₀ at part numbers = length text - at
+
+-- src/lib.rt:175:9
+none-requires : tie.Need-none-requires Inv-loop μ-loop
+none-requires c κs = tt
+
+-- src/lib.rt:176:5
+loop-holds : tie.Need-loop-holds Inv-loop μ-loop
+loop-holds c = (
+  c .before .before .pre,
+  tt,
+  simp (c .none .ensures) (omega arith),
+  ap (λ (ns : Numbers). numbersScan ns Part.Empty (c .before .before .args .from) (drop (c .before .before .args .from) (c .before .before .args .text .now))) (c .none .ensures),
+)
+
+-- src/lib.rt:177:33
+shared-slice-read-byte-turn : tie.Need-shared-slice-read-byte-turn Inv-loop μ-loop
+shared-slice-read-byte-turn c = omega arith
+
+-- src/lib.rt:177:13
+byte-turn-requires : tie.Need-byte-turn-requires Inv-loop μ-loop
+byte-turn-requires c κs = c .before .before .loop .inv .1
+
+-- src/lib.rt:178:14
+add-at : tie.Need-add-at Inv-loop μ-loop
+add-at c = omega arith
+
+-- src/lib.rt:180:32
+enum-known-t : tie.Need-enum-known-t Inv-loop μ-loop
+enum-known-t c = search needs
+
+-- src/lib.rt:176:5
+loop-less : tie.Need-loop-less Inv-loop μ-loop
+loop-less c = omega arith
+
+-- src/lib.rt:176:5
+loop-again : tie.Need-loop-again Inv-loop μ-loop
+loop-again c = (
+  omega arith,
+  part-fits (c .before .before .before .before .before .before .loop .part) (getD (c .before .before .before .before .before .before .before .before .before .args .text .now) (c .before .before .before .before .before .before .loop .at) 0) _ (sym (c .before .before .before .byte-turn .ensures) ∙ c .before .t .given .1),
+  c .before .before .before .before .before .before .loop .inv .2,
+  sym (numbers-more (c .before .before .before .before .before .before .before .before .before .args .text .now) (c .before .before .before .before .before .before .loop .numbers) (c .before .before .before .before .before .before .loop .part) (c .before .before .before .before .before .before .loop .at) (c .before .before .before .before .before .loop-test .taken) _ (sym (c .before .before .before .byte-turn .ensures) ∙ c .before .t .given .1)) ∙ c .before .before .before .before .before .before .loop .inv .3,
+)
+
+-- src/lib.rt:183:27
+enum-known-t-2 : tie.Need-enum-known-t-2 Inv-loop μ-loop
+enum-known-t-2 c = search needs
+
+-- src/lib.rt:186:21
+returns : tie.Need-returns Inv-loop μ-loop
+returns c = sym (numbers-full (c .before .before .before .before .before .before .before .before .before .before .args .text .now) (c .before .before .before .before .before .before .before .loop .numbers) (c .before .before .before .before .before .before .before .loop .part) (c .before .before .before .before .before .before .before .loop .at) (c .before .before .before .before .before .before .loop-test .taken) _ (sym (c .before .before .before .before .byte-turn .ensures) ∙ c .before .before .t2 .given .1) (c .if1 .taken)) ∙ c .before .before .before .before .before .before .before .loop .inv .3
+
+-- src/lib.rt:188:17
+with-requires : tie.Need-with-requires Inv-loop μ-loop
+with-requires c κs = omega arith
+
+-- src/lib.rt:176:5
+loop-less-2 : tie.Need-loop-less-2 Inv-loop μ-loop
+loop-less-2 c = omega arith
+
+-- src/lib.rt:176:5
+loop-again-2 : tie.Need-loop-again-2 Inv-loop μ-loop
+unfolding withNumber
+loop-again-2 c = (
+  omega arith,
+  tt,
+  (let e : c .with .result .count ≡ c .before .before .before .before .before .before .before .before .loop .numbers .count + 1 = ap (λ (ns : Numbers). ns .count) (c .with .ensures) in omega arith),
+  ap (λ (ns : Numbers). numbersScan ns Part.Empty (c .before .before .before .before .before .before .before .before .loop .at + 1) (drop (c .before .before .before .before .before .before .before .before .loop .at + 1) (c .before .before .before .before .before .before .before .before .before .before .before .args .text .now))) (c .with .ensures)
+      ∙ sym (numbers-comma (c .before .before .before .before .before .before .before .before .before .before .before .args .text .now) (c .before .before .before .before .before .before .before .before .loop .numbers) (c .before .before .before .before .before .before .before .before .loop .part) (c .before .before .before .before .before .before .before .before .loop .at) (c .before .before .before .before .before .before .before .loop-test .taken) _ (sym (c .before .before .before .before .before .byte-turn .ensures) ∙ c .before .before .before .t2 .given .1) (c .before .if1 .left)) ∙ c .before .before .before .before .before .before .before .before .loop .inv .3,
+)
+
+-- src/lib.rt:191:25
+enum-known-t-3 : tie.Need-enum-known-t-3 Inv-loop μ-loop
+enum-known-t-3 c = search needs
+
+-- src/lib.rt:193:30
+with-requires-2 : tie.Need-with-requires-2 Inv-loop μ-loop
+with-requires-2 c κs = omega arith
+
+-- src/lib.rt:192:17
+returns-2 : tie.Need-returns-2 Inv-loop μ-loop
+returns-2 c =
+    ap (λ (ns : Numbers). NumbersRead.Numbers ns (c .before .before .before .before .before .before .before .loop .at + 1)) (c .with2 .ensures)
+    ∙ sym (numbers-line (c .before .before .before .before .before .before .before .before .before .before .args .text .now) (c .before .before .before .before .before .before .before .loop .numbers) (c .before .before .before .before .before .before .before .loop .part) (c .before .before .before .before .before .before .before .loop .at) (c .before .before .before .before .before .before .loop-test .taken) _ (sym (c .before .before .before .before .byte-turn .ensures) ∙ c .before .before .t3 .given .1)) ∙ c .before .before .before .before .before .before .before .loop .inv .3
+
+-- src/lib.rt:198:17
+enum-told : tie.Need-enum-told Inv-loop μ-loop
+enum-told c = search needs
+
+-- src/lib.rt:198:17
+returns-3 : tie.Need-returns-3 Inv-loop μ-loop
+returns-3 c = sym (numbers-torn (c .before .before .before .before .before .before .before .before .args .text .now) (c .before .before .before .before .before .loop .numbers) (c .before .before .before .before .before .loop .part) (c .before .before .before .before .before .loop .at) (c .before .before .before .before .loop-test .taken) (sym (c .before .before .byte-turn .ensures) ∙ c .enum-told .given .1)) ∙ c .before .before .before .before .before .loop .inv .3
+
+-- src/lib.rt:169:1
+returns-4 : tie.Need-returns-4 Inv-loop μ-loop
+returns-4 c = sym (numbers-end (c .before .before .before .before .args .text .now) (c .before .loop .numbers) (c .before .loop .part) (c .before .loop .at) (omega arith)) ∙ c .before .loop .inv .3
+
+pub read-numbers-spec : {M : Type 1} → statement M
+read-numbers-spec =
+    tie.close
+    (tie.spec
+    Inv-loop
+    μ-loop
+    none-requires
+    loop-holds
+    shared-slice-read-byte-turn
+    byte-turn-requires
+    add-at
+    enum-known-t
+    loop-less
+    loop-again
+    enum-known-t-2
+    returns
+    with-requires
+    loop-less-2
+    loop-again-2
+    enum-known-t-3
+    with-requires-2
+    returns-2
+    enum-told
+    returns-3
+    returns-4)
