@@ -151,7 +151,8 @@ too-large q ps h t =
 
 -- the result of scanning numbers whose pieces, with what was written before, are ps, in a line that ends before place j
 pub data Scanned (ns : Numbers) (ps : List (List ℕ)) (j : ℕ) : NumbersRead → Type 0 where
-  found : {ns′ : Numbers} {k : ℕ} → T (allDecimals ps) → listOf ns′ ≡ listOf ns ++ values ps → k ≡ j → Scanned ns ps j (NumbersRead.Numbers ns′ k)
+  found : {ns′ : Numbers} {k : ℕ} → T (allDecimals ps) → listOf ns′ ≡ listOf ns ++ values ps → k ≡ j → ns′ .count ≤ 9
+      → Scanned ns ps j (NumbersRead.Numbers ns′ k)
   lost : (T (allDecimals ps) → 9 < ns .count + length ps) → Scanned ns ps j NumbersRead.Torn
 
 -- no byte of the list is c
@@ -171,10 +172,10 @@ splitOn-other c b bs ne = ap (λ (x : Bool). cond x ([] ∷ splitOn c bs) (inFro
 pub after-comma : (ns : Numbers) (v : ℕ) (q : List ℕ) (ps : List (List ℕ)) (j : ℕ) (r : NumbersRead) → ns .count ≤ 8 → T (isDecimal q) → valueOf q ≡ v
     → Scanned (withNumber ns v) ps j r → Scanned ns (q ∷ ps) j r
 unfolding allDecimals values
-after-comma ns v q ps j (NumbersRead.Numbers ns′ k) m d e (found t l p) =
+after-comma ns v q ps j (NumbersRead.Numbers ns′ k) m d e (found t l p c) =
     found (and-intro (isDecimal q) (allDecimals ps) d t)
     (l ∙ ap (λ (x : List ℕ). x ++ values ps) (with-list ns v m) ∙ append-snoc (listOf ns) v (values ps)
     ∙ ap (λ (n : ℕ). listOf ns ++ (n ∷ values ps)) (sym e))
-    p
+    p c
 after-comma ns v q ps j NumbersRead.Torn m d e (lost f) =
     lost (λ t. omega (arith, f (and-right (isDecimal q) (allDecimals ps) t), with-count ns v))

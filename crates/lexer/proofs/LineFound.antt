@@ -157,12 +157,13 @@ module _ (text : List ℕ) (i : ℕ) (q rest : List ℕ) (e : drop i text ≡ q 
     numbers-here NumbersRead.Torn f (lost g) =
         subst (Found text i) (sym (line-no-numbers text i c j k f))
         (no-line (refusing-here (subst Hopeless (sym the-line) (numbers-lost u (splitOn comma v) g))))
-    numbers-here (NumbersRead.Numbers ns m) f (found d g o) =
+    numbers-here (NumbersRead.Numbers ns m) f (found d g o n) =
         subst (Found text i) (sym (line-whole text i c j ns m k f))
         (a-line
         (lines-here ∙ ap (λ (x : Line). x ∷ linesOf rest) whole ∙ ap (λ (x : List ℕ). line (keyOfCode c) (listOf ns) ∷ linesOf x) (sym past-it))
         (omega arith)
-        (omega (arith, length-drop m text, ap length past-it, ap length after-equals, length-append v (newline ∷ rest), length-drop j text)))
+        (omega (arith, length-drop m text, ap length past-it, ap length after-equals, length-append v (newline ∷ rest), length-drop j text))
+        n)
       where
         past-it : drop m text ≡ rest
         past-it =

@@ -34,7 +34,7 @@ pub data Refusing : List Line → Type 0 where
 
 -- what a line's reading at a place means for the lines there
 pub data Found (text : List ℕ) (i : ℕ) : LineRead → Type 0 where
-  a-line : {k : Key} {ns : Numbers} {j : ℕ} → linesOf (drop i text) ≡ line k (listOf ns) ∷ linesOf (drop j text) → i < j → j ≤ length text
+  a-line : {k : Key} {ns : Numbers} {j : ℕ} → linesOf (drop i text) ≡ line k (listOf ns) ∷ linesOf (drop j text) → i < j → j ≤ length text → ns .count ≤ 9
       → Found text i (LineRead.Line k ns j)
   no-line : Refusing (linesOf (drop i text)) → Found text i LineRead.Torn
 

@@ -105,18 +105,21 @@ one-value : (b : ℕ) → valueOf (b ∷ []) ≡ b - digit0
 unfolding valueFrom
 one-value b = omega arith
 
+count-one : (ns : Numbers) (v : ℕ) → ns .count ≤ 8 → (withNumber ns v) .count ≤ 9
+count-one ns v m = omega (arith, with-count ns v)
+
 -- a line's end
 scanned-end : (ns : Numbers) → ns .count ≤ 8 → (p : Part) (w : List ℕ) → Written p w → PartFits p → (i : ℕ) (rest : List ℕ)
     → Scanned ns (glue w ([] ∷ [])) (i + 1) (numbersScan ns p i (newline ∷ rest))
 unfolding numbersScan glue allDecimals isDecimal allDigits valueFrom values
 scanned-end ns m Empty [] none-yet f i rest = lost (λ t. absurd t)
-scanned-end ns m Zero (_ ∷ []) a-zero f i rest = found tt (with-list ns 0 m) refl
+scanned-end ns m Zero (_ ∷ []) a-zero f i rest = found tt (with-list ns 0 m) refl (count-one ns 0 m)
 scanned-end ns m (Digits v) (b ∷ bs) (some-digits d ne e) f i rest =
     found
     (and-intro (isDecimal (b ∷ (bs ++ []))) true
     (subst (λ (l : List ℕ). T (isDecimal l)) (sym (append-nil (b ∷ bs))) (digits-decimal v b bs d ne e f)) tt)
     (with-list ns v m ∙ ap (λ (n : ℕ). listOf ns ++ (n ∷ [])) (sym e ∙ ap valueOf (sym (append-nil (b ∷ bs)))))
-    refl
+    refl (count-one ns v m)
 
 -- all that is known of the bytes of a line after a given one
 abbrev Later : List ℕ → List ℕ → Type 0

@@ -2,36 +2,36 @@
 ghost use mathlib.Core.Path.{_≡_};
 ghost use Prim.Native.Nat.{_≤_, _<_};
 ghost use lib.ListN.{length, drop};
-ghost use Rattle.lexer.specs.Scan.{endTurn, digitTurn, firstTurn, turnOf, PartFits, noNumbers, withNumber, atPlace, numbersScan, keyScan, keyOfCode, lineAt};
+ghost use Rattle.lexer.specs.Scan.{endTurn, digitTurn, firstTurn, turnOf, noNumbers, withNumber, atPlace, numbersScan, keyScan, keyOfCode, lineAt};
 use sheet_rules::Key;
 
 // The number in progress: no digit yet, the number 0, or digits that do not begin with 0.
 pub enum Part {
     Empty,
     Zero,
-    Digits { value: u32 },
+    Digits { value: u16 },
 }
 
 // What a byte does to the numbers of a line.
 pub enum Turn {
     More { part: Part },
-    Comma { value: u32 },
-    End { value: u32 },
+    Comma { value: u16 },
+    End { value: u16 },
     Torn,
 }
 
 // The numbers of a line, nine at the most.
 pub struct Numbers {
     pub count: u32,
-    pub n0: u32,
-    pub n1: u32,
-    pub n2: u32,
-    pub n3: u32,
-    pub n4: u32,
-    pub n5: u32,
-    pub n6: u32,
-    pub n7: u32,
-    pub n8: u32,
+    pub n0: u16,
+    pub n1: u16,
+    pub n2: u16,
+    pub n3: u16,
+    pub n4: u16,
+    pub n5: u16,
+    pub n6: u16,
+    pub n7: u16,
+    pub n8: u16,
 }
 
 // The numbers up to the end of a line, and the place after it.
@@ -57,7 +57,7 @@ pub enum LineRead {
 }
 
 // A number has ended: a comma asks for another one, a byte 10 ends the line.
-fn end_turn(value: u32, byte: u8) -> Turn
+fn end_turn(value: u16, byte: u8) -> Turn
     ensures { λ r. ⌜ r ≡ endTurn value byte ⌝ }
 {
     if byte == 44 {
@@ -70,8 +70,7 @@ fn end_turn(value: u32, byte: u8) -> Turn
 }
 
 // Digits so far, of this value, and a byte.
-fn digit_turn(value: u32, byte: u8) -> Turn
-    requires { ⌜ value ≤ 65535 ⌝ }
+fn digit_turn(value: u16, byte: u8) -> Turn
     ensures { λ r. ⌜ r ≡ digitTurn value byte ⌝ }
 {
     if byte < 48 {
@@ -80,10 +79,12 @@ fn digit_turn(value: u32, byte: u8) -> Turn
     if 57 < byte {
         return end_turn(value, byte);
     }
-    let grown = value * 10 + (byte - 48) as u32;
+    let grown = (value as u32) * 10 + (byte - 48) as u32;
     if grown <= 65535 {
         return Turn::More {
-            part: Part::Digits { value: grown },
+            part: Part::Digits {
+                value: grown as u16,
+            },
         };
     }
     Turn::Torn
@@ -102,7 +103,7 @@ fn first_turn(byte: u8) -> Turn
     if byte == 48 {
         return Turn::More { part: Part::Zero };
     }
-    let value = (byte - 48) as u32;
+    let value = (byte - 48) as u16;
     Turn::More {
         part: Part::Digits { value },
     }
@@ -110,7 +111,6 @@ fn first_turn(byte: u8) -> Turn
 
 // A byte after the number in progress.
 fn byte_turn(part: Part, byte: u8) -> Turn
-    requires { ⌜ PartFits part ⌝ }
     ensures { λ r. ⌜ r ≡ turnOf part byte ⌝ }
 {
     match part {
@@ -139,7 +139,7 @@ impl Numbers {
     }
 
     // One number more.
-    pub fn with(self, v: u32) -> Numbers
+    pub fn with(self, v: u16) -> Numbers
         requires { ⌜ self .count < 9 ⌝ }
         ensures { λ r. ⌜ r ≡ withNumber self v ⌝ }
     {
@@ -160,7 +160,7 @@ impl Numbers {
 }
 
 // The number v if the place is the one sought, and else the number there.
-fn at_place(count: u32, i: u32, v: u32, there: u32) -> u32
+fn at_place(count: u32, i: u32, v: u16, there: u16) -> u16
     ensures { λ r. ⌜ r ≡ atPlace count i v there ⌝ }
 {
     if count == i {

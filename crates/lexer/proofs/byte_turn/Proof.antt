@@ -1,6 +1,3 @@
-use mathlib.Core.Path.{subst}
-use Rattle.lexer.specs.declared.Part.{Part}
-use Rattle.lexer.specs.Scan.{PartFits}
 use borrow.Author.Needs.{needs}
 use Rattle.lexer.proofs.byte_turn.Statement.{statement}
 use Rattle.lexer.proofs.byte_turn.Tie as tie
@@ -10,39 +7,39 @@ use Rattle.lexer.proofs.digit_turn.Reads as digit-turn-reads
 use Rattle.lexer.proofs.end_turn.Reads as end-turn-reads
 use Rattle.lexer.proofs.first_turn.Reads as first-turn-reads
 
--- src/lib.rt:113:24
+-- src/lib.rt:117:24
 enum-told : tie.Need-enum-told
 enum-told c = search needs
 
--- src/lib.rt:113:24
+-- src/lib.rt:117:24
 first-turn-requires : tie.Need-first-turn-requires
 first-turn-requires c κs = search needs
 
--- src/lib.rt:114:23
+-- src/lib.rt:118:23
 enum-told-2 : tie.Need-enum-told-2
 enum-told-2 c = search needs
 
--- src/lib.rt:114:23
+-- src/lib.rt:118:23
 end-turn-requires : tie.Need-end-turn-requires
 end-turn-requires c κs = search needs
 
--- src/lib.rt:115:24
+-- src/lib.rt:119:24
 enum-known-part : tie.Need-enum-known-part
 enum-known-part c = search needs
 
--- src/lib.rt:115:35
+-- src/lib.rt:119:35
 digit-turn-requires : tie.Need-digit-turn-requires
-digit-turn-requires c κs = subst (λ (p : Part). PartFits p) (c .before .part .given .1) (c .before .before .before .pre)
+digit-turn-requires c κs = search needs
 
--- src/lib.rt:108:1
+-- src/lib.rt:113:1
 returns : tie.Need-returns
 returns c = cc
 
--- src/lib.rt:108:1
+-- src/lib.rt:113:1
 returns-2 : tie.Need-returns-2
 returns-2 c = cc
 
--- src/lib.rt:108:1
+-- src/lib.rt:113:1
 returns-3 : tie.Need-returns-3
 returns-3 c = cc
 

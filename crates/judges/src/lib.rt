@@ -1,0 +1,270 @@
+// The judgement of one line by its key and numbers, in the order of the refusals' numbers.
+ghost use mathlib.Core.Path.{_≡_};
+ghost use Prim.Native.Nat.{_≤_, _<_, _+_};
+ghost use Rattle.sheet_rules.specs.Keys.{codeOf, countOf, hasKey, hasInstructionKey};
+ghost use Rattle.sheet_rules.specs.Reader.{countLine, existingLine};
+ghost use mathlib.Core.List.{List};
+ghost use Rattle.sheet_rules.specs.Sheet.{Row as RowRule};
+ghost use Rattle.sheet_rules.specs.RowLines.{rowLine};
+ghost use Rattle.sheet_rules.specs.FormLines.{formLine, bodyLine, instrLine, instrOf};
+ghost use Rattle.lexer.specs.Scan.{listOf};
+ghost use Rattle.judges.specs.Told.{factsOf, numberTold, rowTold, formTold};
+use lexer::Numbers;
+use sheet_rules::Key;
+use sheet_rules::Reason;
+
+// A key's code, and the fewest and most numbers that it takes.
+pub struct KeyFacts {
+    pub code: u32,
+    pub fewest: u32,
+    pub most: u32,
+}
+
+// A line with one number, judged.
+pub enum NumberJudged {
+    Number { value: u16 },
+    Refused { reason: Reason },
+}
+
+// A line with two numbers, judged.
+pub enum PairJudged {
+    Pair { first: u16, second: u16 },
+    Refused { reason: Reason },
+}
+
+// A line whose numbers are kept as they are, judged.
+pub enum LineJudged {
+    Good,
+    Refused { reason: Reason },
+}
+
+// The key is matched to its code and its number count.
+pub fn key_facts(key: Key) -> KeyFacts
+    ensures { λ r. ⌜ r ≡ factsOf key ⌝ }
+{
+    match key {
+        Key::Types => KeyFacts {
+            code: 0,
+            fewest: 1,
+            most: 1,
+        },
+        Key::Row => KeyFacts {
+            code: 1,
+            fewest: 2,
+            most: 2,
+        },
+        Key::Def => KeyFacts {
+            code: 2,
+            fewest: 3,
+            most: 3,
+        },
+        Key::Var => KeyFacts {
+            code: 3,
+            fewest: 2,
+            most: 2,
+        },
+        Key::Forms => KeyFacts {
+            code: 4,
+            fewest: 1,
+            most: 1,
+        },
+        Key::Form => KeyFacts {
+            code: 5,
+            fewest: 2,
+            most: 2,
+        },
+        Key::Keep => KeyFacts {
+            code: 6,
+            fewest: 1,
+            most: 1,
+        },
+        Key::Init => KeyFacts {
+            code: 7,
+            fewest: 1,
+            most: 1,
+        },
+        Key::Body => KeyFacts {
+            code: 8,
+            fewest: 1,
+            most: 1,
+        },
+        Key::Main => KeyFacts {
+            code: 9,
+            fewest: 1,
+            most: 1,
+        },
+        Key::New => KeyFacts {
+            code: 10,
+            fewest: 1,
+            most: 9,
+        },
+        Key::Call => KeyFacts {
+            code: 11,
+            fewest: 3,
+            most: 3,
+        },
+        Key::Get => KeyFacts {
+            code: 12,
+            fewest: 1,
+            most: 1,
+        },
+        Key::Put => KeyFacts {
+            code: 13,
+            fewest: 2,
+            most: 2,
+        },
+        Key::Copy => KeyFacts {
+            code: 14,
+            fewest: 1,
+            most: 1,
+        },
+        Key::Unknown => KeyFacts {
+            code: 15,
+            fewest: 1,
+            most: 0,
+        },
+    }
+}
+
+// The line has the wanted key, with as many numbers as it asks for.
+pub fn has_key(wanted: Key, key: Key, numbers: Numbers) -> bool
+    requires { ⌜ numbers .count ≤ 9 ⌝ }
+    ensures { λ r. ⌜ r ≡ hasKey wanted key (listOf numbers) ⌝ }
+{
+    let w = key_facts(wanted);
+    let k = key_facts(key);
+    let count = numbers.count;
+    if k.code == w.code {
+        if w.fewest <= count {
+            return count <= w.most;
+        }
+    }
+    false
+}
+
+// `types=T` and `forms=F`: a count within its limits.
+pub fn count_line(wanted: Key, low: u16, high: u16, key: Key, numbers: Numbers) -> NumberJudged
+    requires { ⌜ numbers .count ≤ 9 ⌝ }
+    ensures { λ r. ⌜ numberTold r ≡ countLine wanted low high key (listOf numbers) ⌝ }
+{
+    let shaped = has_key(wanted, key, numbers);
+    if !shaped {
+        return NumberJudged::Refused {
+            reason: Reason::Malformed,
+        };
+    }
+    let value = numbers.n0;
+    if value < low {
+        return NumberJudged::Refused {
+            reason: Reason::OutOfLimit,
+        };
+    }
+    if high < value {
+        return NumberJudged::Refused {
+            reason: Reason::OutOfLimit,
+        };
+    }
+    NumberJudged::Number { value }
+}
+
+// `keep=T` and `init=k`: the number of something that is there.
+pub fn existing_line(wanted: Key, there: u16, key: Key, numbers: Numbers) -> NumberJudged
+    requires { ⌜ numbers .count ≤ 9 ⌝ }
+    ensures { λ r. ⌜ numberTold r ≡ existingLine wanted there key (listOf numbers) ⌝ }
+{
+    let shaped = has_key(wanted, key, numbers);
+    if !shaped {
+        return NumberJudged::Refused {
+            reason: Reason::Malformed,
+        };
+    }
+    let value = numbers.n0;
+    if there <= value {
+        return NumberJudged::Refused {
+            reason: Reason::NotDefined,
+        };
+    }
+    NumberJudged::Number { value }
+}
+
+// `body=I` and `main=I`, after so many instructions of the sheet.
+pub fn body_line(wanted: Key, used: u16, key: Key, numbers: Numbers) -> NumberJudged
+    requires { ⌜ numbers .count ≤ 9 ⌝ }
+    ensures { λ r. ⌜ numberTold r ≡ bodyLine wanted used key (listOf numbers) ⌝ }
+{
+    let shaped = has_key(wanted, key, numbers);
+    if !shaped {
+        return NumberJudged::Refused {
+            reason: Reason::Malformed,
+        };
+    }
+    let value = numbers.n0;
+    if value < 1 {
+        return NumberJudged::Refused {
+            reason: Reason::OutOfLimit,
+        };
+    }
+    if 32 < value {
+        return NumberJudged::Refused {
+            reason: Reason::OutOfLimit,
+        };
+    }
+    if 1024 < (used as u32) + (value as u32) {
+        return NumberJudged::Refused {
+            reason: Reason::OutOfLimit,
+        };
+    }
+    NumberJudged::Number { value }
+}
+
+// `type=K,M`, but for the test whether the row has a twin.
+pub fn row_line(key: Key, numbers: Numbers) -> PairJudged
+    requires { ⌜ numbers .count ≤ 9 ⌝ }
+    ensures { λ r. ⌜ ((earlier : List RowRule) → rowTold earlier r ≡ rowLine earlier key (listOf numbers)) ⌝ }
+{
+    let shaped = has_key(Key::Row, key, numbers);
+    if !shaped {
+        return PairJudged::Refused {
+            reason: Reason::Malformed,
+        };
+    }
+    let first = numbers.n0;
+    let second = numbers.n1;
+    if 1 < first {
+        return PairJudged::Refused {
+            reason: Reason::OutOfLimit,
+        };
+    }
+    if 8 < second {
+        return PairJudged::Refused {
+            reason: Reason::OutOfLimit,
+        };
+    }
+    PairJudged::Pair { first, second }
+}
+
+// `form=T,C`, in a sheet of so many rows.
+pub fn form_line(rows: u16, key: Key, numbers: Numbers) -> PairJudged
+    requires { ⌜ numbers .count ≤ 9 ⌝ }
+    ensures { λ r. ⌜ formTold r ≡ formLine rows key (listOf numbers) ⌝ }
+{
+    let shaped = has_key(Key::Form, key, numbers);
+    if !shaped {
+        return PairJudged::Refused {
+            reason: Reason::Malformed,
+        };
+    }
+    let first = numbers.n0;
+    let second = numbers.n1;
+    if 8 < second {
+        return PairJudged::Refused {
+            reason: Reason::OutOfLimit,
+        };
+    }
+    if rows <= first {
+        return PairJudged::Refused {
+            reason: Reason::NotDefined,
+        };
+    }
+    PairJudged::Pair { first, second }
+}
