@@ -1,3 +1,5 @@
 pub mod Opened
 pub mod TypingCases
 pub mod FitLaws
+pub mod TypingLaws
+pub mod LookUpLaws
