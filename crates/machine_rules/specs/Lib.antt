@@ -1,3 +1,4 @@
 pub mod State
 pub mod Step
 pub mod Steps
+pub mod Sound

@@ -1,0 +1,75 @@
+-- What look-ups find: the body of a method in a well-typed form, the place of a field, the last slot. Assumes nothing.
+use Prim.Native.Nat.{ℕ, zero, suc, pred, _<_}
+use native.Mathlib.Omega.{arith}
+use mathlib.Core.Path.{_≡_, refl, ap, _∙_, subst}
+use mathlib.Core.Bool.{Bool, true, false, cond}
+use mathlib.Core.List.{List, [], _∷_}
+use mathlib.Core.Option.{Option, none, some}
+use lib.Dec.{eqb}
+use lib.ListN.{length, getD}
+use Rattle.lists.specs.Pairwise.{Pairwise, pair}
+use Rattle.sheet_rules.specs.declared.Member.{Member}
+use Rattle.sheet_rules.specs.declared.Member.the-variants.{Method, Field}
+use Rattle.sheet_rules.specs.Sheet.{Instr, Part, body, Form, Sheet}
+use Rattle.type_rules.specs.Typing.{Signature, methodIn, fieldIn, bodyRows}
+use Rattle.type_rules.specs.Typed.{CodeTyped, PartTyped, typed-init, typed-body}
+use Rattle.machine_rules.specs.State.{lastOf}
+use Rattle.machine_rules.specs.Step.{bodyIn, nextPlace, fieldPlace}
+use Rattle.machine_rules.specs.Sound.{fieldRows}
+
+-- the body that a form has for a method of its row
+pub record HasBody (s : Sheet) (f : Form) (ms : List Member) (ps : List Part) (n : ℕ) (m : Signature) : Type 0 where
+  pub code : List Instr
+  pub lookedUp : bodyIn ms ps n ≡ some code
+  pub typed : CodeTyped s (some (f .row)) (some (m .result)) (bodyRows f (m .argument)) code
+
+pub body-found : {s : Sheet} {f : Form} {ms : List Member} {ps : List Part} (n : ℕ) (m : Signature) → Pairwise (PartTyped s f) ms ps
+    → methodIn ms n ≡ some m → HasBody s f ms ps n m
+unfolding methodIn bodyIn
+body-found n m Pairwise.none e = absurd (let z : _≡_ {A = ℕ} 0 1 = cc in omega arith)
+body-found n m (pair (typed-init h) p) e =
+    let b = body-found n m p e in
+    record { code = b .code; lookedUp = b .lookedUp; typed = b .typed }
+body-found {s} {f} n m (pair {xs = ms} {ys = ps} (typed-body {n = k} {a = a} {r = r} {is = is} c) p) e = go (eqb k n) refl e (body-found n m p)
+  where
+    go : (b : Bool) → eqb k n ≡ b → cond b (some (record { argument = a; result = r })) (methodIn ms n) ≡ some m
+        → (methodIn ms n ≡ some m → HasBody s f ms ps n m) → HasBody s f (Method k a r ∷ ms) (body is ∷ ps) n m
+    go true q e more =
+        let this : record { argument = a; result = r } ≡ m = cc in
+        record { code = is; lookedUp = ap (λ (t : Bool). cond t (some is) (bodyIn ms ps n)) q; typed = subst (λ (x : Signature). CodeTyped s (some (f .row)) (some (x .result)) (bodyRows f (x .argument)) is) this c }
+    go false q e more =
+        let b = more e in
+        record { code = b .code; lookedUp = ap (λ (t : Bool). cond t (some is) (bodyIn ms ps n)) q ∙ b .lookedUp; typed = b .typed }
+
+-- the place that a field of a row has
+pub record HasField (ms : List Member) (n r : ℕ) : Type 0 where
+  pub place : ℕ
+  pub lookedUp : fieldPlace ms n ≡ some place
+  pub inside : place < length (fieldRows ms)
+  pub row : getD (fieldRows ms) place 0 ≡ r
+
+pub field-found : (ms : List Member) (n r : ℕ) → fieldIn ms n ≡ some r → HasField ms n r
+unfolding fieldIn fieldPlace fieldRows
+field-found [] n r e = absurd (let z : _≡_ {A = ℕ} 0 1 = cc in omega arith)
+field-found (Method k a b ∷ ms) n r e =
+    let h = field-found ms n r e in
+    record { place = h .place; lookedUp = h .lookedUp; inside = h .inside; row = h .row }
+field-found (Field k b ∷ ms) n r e = go (eqb k n) refl e (field-found ms n r)
+  where
+    go : (t : Bool) → eqb k n ≡ t → cond t (some b) (fieldIn ms n) ≡ some r → (fieldIn ms n ≡ some r → HasField ms n r) → HasField (Field k b ∷ ms) n r
+    go true q e more =
+        record { place = 0; lookedUp = ap (λ (t : Bool). cond t (some 0) (nextPlace (fieldPlace ms n))) q; inside = omega arith; row = cc }
+    go false q e more =
+        let h = more e in
+        record {
+          place = suc (h .place);
+          lookedUp = ap (λ (t : Bool). cond t (some 0) (nextPlace (fieldPlace ms n))) q ∙ ap nextPlace (h .lookedUp);
+          inside = omega (arith, h .inside);
+          row = h .row;
+        }
+
+pub lastOf-at : (xs : List ℕ) → lastOf xs ≡ getD xs (pred (length xs)) 0
+unfolding lastOf
+lastOf-at [] = refl
+lastOf-at (x ∷ []) = refl
+lastOf-at (x ∷ y ∷ xs) = lastOf-at (y ∷ xs)

@@ -1,0 +1,83 @@
+-- Every state after n steps of an accepted sheet is sound, so its next step is never lacking. Assumes nothing.
+use Prim.Native.Nat.{ℕ, zero, suc}
+use native.Mathlib.Omega.{arith}
+use mathlib.Core.Path.{_≡_, refl, sym, ap, _∙_, subst}
+use mathlib.Core.List.{List, []}
+use mathlib.Core.Option.{Option, none, some}
+use Rattle.lists.specs.Pairwise.{Pairwise}
+use Rattle.sheet_rules.specs.declared.Verdict.{Verdict}
+use Rattle.sheet_rules.specs.declared.Verdict.the-variants.{Accepted}
+use Rattle.sheet_rules.specs.Sheet.{Sheet}
+use Rattle.sheet_rules.specs.WellFormed.{WellFormed}
+use Rattle.sheet_rules.specs.Reading.{readable, meaning}
+use Rattle.sheet_rules.proofs.ReadingLaws.{readable-wellFormed}
+use Rattle.type_rules.specs.Typing.{typing, verdictOn, verdict}
+use Rattle.type_rules.specs.Typed.{Typed}
+use Rattle.type_rules.proofs.TypingLaws.{accepted-typed}
+use Rattle.machine_rules.specs.State.{State, start}
+use Rattle.machine_rules.specs.Step.{Action, Next, finished, step, storeFull, stackFull, lacking, nextStep}
+use Rattle.machine_rules.specs.Steps.{stateOf, stepFrom, after}
+use Rattle.machine_rules.specs.Sound.{main, bottom, Sound}
+use Rattle.machine_rules.proofs.NextSound.{Goes, ends, moves, store, stack, sound-goes}
+
+-- the state that a sound next step leaves is sound
+goes-sound : (s : Sheet) (σ : State) (x : Next) → Goes s x → stateOf x ≡ some σ → Sound s σ
+goes-sound s σ (finished v) ends e = absurd (let z : _≡_ {A = ℕ} 0 1 = cc in omega arith)
+goes-sound s σ (step b τ) (moves d) e = subst (Sound s) (cc) d
+goes-sound s σ storeFull store e = absurd (let z : _≡_ {A = ℕ} 0 1 = cc in omega arith)
+goes-sound s σ stackFull stack e = absurd (let z : _≡_ {A = ℕ} 0 1 = cc in omega arith)
+
+module _ (s : Sheet) (w : WellFormed s) (t : Typed s) where
+  -- the start is sound
+  pub start-sound : Sound s (start s)
+  start-sound =
+      record {
+        store = λ o h. absurd (omega arith);
+        own = none;
+        result = none;
+        rows = [];
+        top = record { receives = main; slots = Pairwise.none };
+        code = t .main;
+        below = bottom;
+        places = omega arith;
+        height = omega arith;
+      }
+
+  -- a step keeps it
+  pub step-sound : (σ σ′ : State) (a : Action) → Sound s σ → nextStep s σ ≡ step a σ′ → Sound s σ′
+  step-sound σ σ′ a c e = goes-sound s σ′ (nextStep s σ) (sound-goes s w t σ c) (ap stateOf e)
+
+  -- so that every state after n steps is sound
+  pub after-sound : (n : ℕ) (σ : State) → after s n ≡ some σ → Sound s σ
+  unfolding after
+  after-sound zero σ e = subst (Sound s) (cc) start-sound
+  after-sound (suc n) σ e = go (after s n) (after-sound n) e
+    where
+      go : (x : Option State) → ((τ : State) → x ≡ some τ → Sound s τ) → stepFrom s x ≡ some σ → Sound s σ
+      go none earlier q = absurd (let z : _≡_ {A = ℕ} 0 1 = cc in omega arith)
+      go (some τ) earlier q = goes-sound s σ (nextStep s τ) (sound-goes s w t τ (earlier τ refl)) q
+
+-- an accepted text's sheet is well formed and well typed
+pub accepted-sheet : (text : List ℕ) (s : Sheet) → meaning text ≡ readable s → verdict text ≡ Accepted → WellFormed s × Typed s
+unfolding verdict
+accepted-sheet text s e v =
+    let w : WellFormed s = readable-wellFormed text s e in
+    (w, accepted-typed s w (ap verdictOn (sym e) ∙ v))
+
+-- every state after n steps of an accepted text is sound
+pub accepted-sound : (text : List ℕ) (s : Sheet) → meaning text ≡ readable s → verdict text ≡ Accepted
+    → (n : ℕ) (σ : State) → after s n ≡ some σ → Sound s σ
+accepted-sound text s e v n σ p = let a = accepted-sheet text s e v in after-sound s (a .0) (a .1) n σ p
+
+-- and its next step is never lacking
+pub never-lacking : (text : List ℕ) (s : Sheet) → meaning text ≡ readable s → verdict text ≡ Accepted
+    → (n : ℕ) (σ : State) → after s n ≡ some σ → nextStep s σ ≡ lacking → ⊥
+never-lacking text s e v n σ p q =
+    let a = accepted-sheet text s e v in
+    go (nextStep s σ) (sound-goes s (a .0) (a .1) σ (after-sound s (a .0) (a .1) n σ p)) q
+  where
+    go : (x : Next) → Goes s x → x ≡ lacking → ⊥
+    go (finished v) ends q = let z : _≡_ {A = ℕ} 0 1 = cc in omega arith
+    go (step b τ) (moves d) q = let z : _≡_ {A = ℕ} 0 1 = cc in omega arith
+    go storeFull store q = let z : _≡_ {A = ℕ} 0 1 = cc in omega arith
+    go stackFull stack q = let z : _≡_ {A = ℕ} 0 1 = cc in omega arith
