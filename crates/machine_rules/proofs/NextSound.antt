@@ -39,7 +39,7 @@ pub data Goes (s : Sheet) : Next → Type 0 where
 
 module _ (s : Sheet) (w : WellFormed s) (t : Typed s) (σ : State) (c : Sound s σ) where
   -- the form of an object is well typed
-  form-of : (o : ℕ) → o < length (σ .objects) → FormTyped s (formAt s ((objectAt (σ .objects) o) .form))
+  pub form-of : (o : ℕ) → o < length (σ .objects) → FormTyped s (formAt s ((objectAt (σ .objects) o) .form))
   form-of o h =
       let f : ℕ = (objectAt (σ .objects) o) .form in
       t .forms (formAt s f) (in-getD (s .forms) f noForm (c .store o h .form))
