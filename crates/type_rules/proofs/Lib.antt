@@ -3,3 +3,4 @@ pub mod TypingCases
 pub mod FitLaws
 pub mod TypingLaws
 pub mod LookUpLaws
+pub mod TypedLaws

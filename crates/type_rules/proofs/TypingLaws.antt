@@ -93,7 +93,7 @@ module _ (s : Sheet) where
 
   -- BODIES
 
-  lastRow-snoc : (rows : List ℕ) (a : ℕ) → lastRow (rows ++ (a ∷ [])) ≡ a
+  pub lastRow-snoc : (rows : List ℕ) (a : ℕ) → lastRow (rows ++ (a ∷ [])) ≡ a
   lastRow-snoc rows a = getD-at rows a [] 0 (pred (length (rows ++ (a ∷ [])))) (rw length-append (omega arith))
 
   result-fits : (result : Option ℕ) (a : ℕ) → resultFault (fits (s .rows)) result a [] ≡ none → ResultFits s a result
