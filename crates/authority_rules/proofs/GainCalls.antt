@@ -18,10 +18,10 @@ use Rattle.type_rules.specs.Typed.{Typed}
 use Rattle.machine_rules.specs.State.{Object, Frame, State, frameCount, objectAt, past}
 use Rattle.machine_rules.specs.Step.{calls, step, stackFull, bodyIn, membersOf, entered, calledStep, callStep}
 use Rattle.machine_rules.specs.Sound.{Sound}
+use Rattle.machine_rules.proofs.StoreLaws.{values-made}
 use Rattle.authority_rules.specs.Authority.{isResource, frames, holderOf, topHolder, ownValues}
 use Rattle.authority_rules.specs.Gain.{Gain, argument}
 use Rattle.authority_rules.proofs.HoldingLaws.{SlotOf, this, later, Reaches, by-slot, by-own, Holds, is-holds}
-use Rattle.authority_rules.proofs.StableLaws.{values-made}
 use Rattle.authority_rules.proofs.KindLaws.{pure-keeps}
 use Rattle.authority_rules.proofs.GainWorks.{Gains, GainsNext, moves, stack, lacks, top-slot, top-value}
 

@@ -22,11 +22,11 @@ use Rattle.type_rules.specs.Typed.{SlotFits, PartTyped, typed-init, typed-body,
 use Rattle.machine_rules.specs.State.{Object, State, noObject, objectAt, made, initialFields}
 use Rattle.machine_rules.specs.Step.{creates, step, storeFull, slotValues, withNew, newStep}
 use Rattle.machine_rules.specs.Sound.{Sound}
-use Rattle.machine_rules.proofs.StoreLaws.{Grows, grows-append, SoundStore}
+use Rattle.machine_rules.proofs.StoreLaws.{values-made, Grows, grows-append, SoundStore}
 use Rattle.authority_rules.specs.Authority.{isResource, frames, topHolder, ownValues, contains, holds}
 use Rattle.authority_rules.specs.Gain.{Gain, maker, itself, endowed}
 use Rattle.authority_rules.proofs.HoldingLaws.{in-contains, SlotOf, Reaches, by-slot, by-own, resource-made, Holds, is-holds}
-use Rattle.authority_rules.proofs.StableLaws.{all-frames, values-made, slot-made, resource-same, slot-filled}
+use Rattle.authority_rules.proofs.StableLaws.{all-frames, slot-made, resource-same, slot-filled}
 use Rattle.authority_rules.proofs.GainWorks.{Gains, GainsNext, moves, store, top-slot}
 
 -- the values of filled slots are in the slots

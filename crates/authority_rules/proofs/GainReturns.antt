@@ -83,4 +83,4 @@ module _ (s : Sheet) (w : WellFormed s) (t : Typed s) (σ : State) (c : Sound s 
       → GainsNext s σ (returnStep σ fs)
   unfolding returnStep
   return-gains-next none [] e d b l = ends
-  return-gains-next (some r) (f ∷ fs) e d (waits r′ frame code fit b) l = moves (return-gains r f fs e d l)
+  return-gains-next (some r) (f ∷ fs) e d (waits r′ frame code room fit b) l = moves (return-gains r f fs e d l)

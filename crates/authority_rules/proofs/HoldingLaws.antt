@@ -15,7 +15,7 @@ use Rattle.lists.proofs.Tests.{and-left, and-right, and-intro, or-left, or-righ
 use Rattle.sheet_rules.specs.Limits.{storeLimit}
 use Rattle.sheet_rules.specs.Sheet.{Sheet, rowOfForm}
 use Rattle.machine_rules.specs.State.{Object, Frame, State, objectAt}
-use Rattle.authority_rules.specs.Authority.{mainHolder, isResourceKind, isResource, frames, frameHolder, holderOf, slotsIf, slotsOf, ownValues, reached, contains, holds}
+use Rattle.authority_rules.specs.Authority.{mainHolder, isResourceKind, isResource, isHolder, frames, frameHolder, holderOf, slotsIf, slotsOf, ownValues, reached, contains, holds}
 
 -- contains: membership as a test
 
@@ -95,6 +95,21 @@ pub record Holds (s : Sheet) (σ : State) (h b : ℕ) : Type 0 where
   pub reaches : Reaches s (σ .objects) (frames σ) h b
 
 module _ (s : Sheet) (σ : State) (h b : ℕ) where
+  -- what holds something is a holder: a number that is none, such as that of an object not yet made, has no authority
+  pub holds-holder : Holds s σ h b → T (isHolder s σ h)
+  holds-holder p = go (p .reaches)
+    where
+      os : List Object
+      os = σ .objects
+
+      pick : (h ≡ mainHolder) ⊎ T (isResource s os h) → T (isHolder s σ h)
+      pick (inl e) = or-left (eqb h mainHolder) (isResource s os h) (true→T (eqb h mainHolder) (eq-eqb h mainHolder e))
+      pick (inr t) = or-right (eqb h mainHolder) (isResource s os h) t
+
+      go : Reaches s os (frames σ) h b → T (isHolder s σ h)
+      go (by-own t i) = pick (inr t)
+      go (by-slot q) = pick (slot-holder s os h b (frames σ) q)
+
   pub holds-is : T (holds s σ h b) → Holds s σ h b
   unfolding holds reached
   holds-is t =

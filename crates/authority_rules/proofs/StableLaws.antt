@@ -10,14 +10,13 @@ use mathlib.Core.Logic.{_⊎_, inl, inr}
 use lib.Dec.{T, ltb}
 use lib.ListN.{length}
 use borrow.Author.Tests.{lt-ltb}
-use Rattle.lists.specs.In.{In, here, there}
-use Rattle.lists.specs.Pairwise.{Pairwise, pair}
+use Rattle.lists.specs.In.{In}
 use Rattle.lists.proofs.InLaws.{in-snoc}
 use Rattle.sheet_rules.specs.Sheet.{Sheet, Instr, rowOfForm}
 use Rattle.type_rules.specs.Typing.{Own}
 use Rattle.machine_rules.specs.State.{Object, Frame, State, objectAt, filled, past}
-use Rattle.machine_rules.specs.Sound.{Is, Receives, main, object, SoundFrame, SoundBelow, bottom, waits, Sound}
-use Rattle.machine_rules.proofs.StoreLaws.{Grows}
+use Rattle.machine_rules.specs.Sound.{Receives, main, object, SoundFrame, SoundBelow, bottom, waits, Sound}
+use Rattle.machine_rules.proofs.StoreLaws.{values-made, Grows}
 use Rattle.authority_rules.specs.Authority.{mainHolder, isResourceKind, isResource, frames, frameHolder, holderOf}
 use Rattle.authority_rules.proofs.HoldingLaws.{SlotOf, this, later}
 
@@ -29,15 +28,10 @@ pub data SoundFrames (s : Sheet) (os : List Object) : List Frame → Type 0 wher
 
 pub below-frames : {s : Sheet} {os : List Object} {result : Option ℕ} {fs : List Frame} → SoundBelow s os result fs → SoundFrames s os fs
 below-frames bottom = no-frame
-below-frames (waits r f c t b) = more f (below-frames b)
+below-frames (waits r f c l t b) = more f (below-frames b)
 
 pub all-frames : (s : Sheet) (σ : State) → Sound s σ → SoundFrames s (σ .objects) (frames σ)
 all-frames s σ c = more (c .top) (below-frames (c .below))
-
--- what a sound list of values holds is made
-pub values-made : {s : Sheet} {os : List Object} {b : ℕ} {xs rows : List ℕ} → Pairwise (Is s os) xs rows → In b xs → b < length os
-values-made {os = os} (pair i p) (here e) = subst (λ (x : ℕ). x < length os) (sym e) (i .made)
-values-made (pair i p) (there j) = values-made p j
 
 pub slot-made : {s : Sheet} {os : List Object} {h b : ℕ} {fs : List Frame} → SoundFrames s os fs → SlotOf s os h b fs → b < length os
 slot-made (more f r) (this e i) = values-made (f .slots) i

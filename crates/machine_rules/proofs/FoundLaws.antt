@@ -1,5 +1,5 @@
 -- What look-ups find: the body of a method in a well-typed form, the place of a field, the last slot. Assumes nothing.
-use Prim.Native.Nat.{ℕ, zero, suc, pred, _<_}
+use Prim.Native.Nat.{ℕ, zero, suc, pred, _≤_, _<_}
 use native.Mathlib.Omega.{arith}
 use mathlib.Core.Path.{_≡_, refl, ap, _∙_, subst}
 use mathlib.Core.Bool.{Bool, true, false, cond}
@@ -10,7 +10,9 @@ use lib.ListN.{length, getD}
 use Rattle.lists.specs.Pairwise.{Pairwise, pair}
 use Rattle.sheet_rules.specs.declared.Member.{Member}
 use Rattle.sheet_rules.specs.declared.Member.the-variants.{Method, Field}
+use Rattle.sheet_rules.specs.Limits.{bodyLimit}
 use Rattle.sheet_rules.specs.Sheet.{Instr, Part, body, Form, Sheet}
+use Rattle.sheet_rules.specs.WellFormed.{PartOf}
 use Rattle.type_rules.specs.Typing.{Signature, methodIn, fieldIn, bodyRows}
 use Rattle.type_rules.specs.Typed.{CodeTyped, PartTyped, typed-init, typed-body}
 use Rattle.machine_rules.specs.State.{lastOf}
@@ -40,6 +42,18 @@ body-found {s} {f} n m (pair {xs = ms} {ys = ps} (typed-body {n = k} {a = a} {r 
     go false q e more =
         let b = more e in
         record { code = b .code; lookedUp = ap (λ (t : Bool). cond t (some is) (bodyIn ms ps n)) q ∙ b .lookedUp; typed = b .typed }
+
+-- it is no longer than a body may be
+pub body-few : {forms keeps : ℕ} {ms : List Member} {ps : List Part} (n : ℕ) (is : List Instr) → Pairwise (PartOf forms keeps) ms ps
+    → bodyIn ms ps n ≡ some is → length is ≤ bodyLimit
+unfolding bodyIn
+body-few n is Pairwise.none e = absurd (let z : _≡_ {A = ℕ} 0 1 = cc in omega arith)
+body-few n is (pair (PartOf.field h) p) e = body-few n is p e
+body-few n is (pair {xs = ms} {ys = ps} (PartOf.method {n = k} {is = js} w) p) e = go (eqb k n) e (body-few n is p)
+  where
+    go : (b : Bool) → cond b (some js) (bodyIn ms ps n) ≡ some is → (bodyIn ms ps n ≡ some is → length is ≤ bodyLimit) → length is ≤ bodyLimit
+    go true e more = let same : js ≡ is = cc in subst (λ (x : List Instr). length x ≤ bodyLimit) same (w .few)
+    go false e more = more e
 
 -- the place that a field of a row has
 pub record HasField (ms : List Member) (n r : ℕ) : Type 0 where

@@ -5,3 +5,4 @@ pub mod StoreLaws
 pub mod FoundLaws
 pub mod NextSound
 pub mod SoundLaws
+pub mod BoundsLaws

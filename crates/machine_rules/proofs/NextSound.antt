@@ -16,9 +16,9 @@ use Rattle.lists.proofs.InLaws.{in-getD}
 use Rattle.lists.proofs.PairwiseLaws.{pairwise-length, pairwise-snoc, pairwise-at, pairwise-set}
 use Rattle.sheet_rules.specs.declared.Member.{Member}
 use Rattle.sheet_rules.specs.declared.Member.the-variants.{Method, Field}
-use Rattle.sheet_rules.specs.Limits.{storeLimit, stackLimit}
+use Rattle.sheet_rules.specs.Limits.{keepLimit, bodyLimit, storeLimit, stackLimit}
 use Rattle.sheet_rules.specs.Sheet.{Instr, new, call, get, put, copy, Part, init, body, Form, Sheet, noForm, formAt}
-use Rattle.sheet_rules.specs.WellFormed.{WellFormed}
+use Rattle.sheet_rules.specs.WellFormed.{WellFormedForm, WellFormed}
 use Rattle.type_rules.specs.Fit.{fits}
 use Rattle.type_rules.specs.Typing.{Signature, methodIn, fieldIn, membersAt, Own, ownField, bodyRows}
 use Rattle.type_rules.specs.Typed.{SlotFits, InstrTyped, typed-new, typed-call, typed-get, typed-put, typed-copy, ResultFits, undeclared, declared, lastRow, CodeTyped, end, next, PartTyped, typed-init, typed-body, FormTyped, Typed}
@@ -26,8 +26,8 @@ use Rattle.type_rules.proofs.FitLaws.{fits-refl}
 use Rattle.type_rules.proofs.LookUpLaws.{Found, fits-method}
 use Rattle.machine_rules.specs.State.{Object, Frame, State, frameCount, noObject, objectAt, made, initialFields, lastOf}
 use Rattle.machine_rules.specs.Step.{Next, finished, step, storeFull, stackFull, lacking, Action, creates, calls, returns, works, bodyIn, nextPlace, fieldPlace, membersOf, slotValues, movedOn, withNew, newStep, entered, calledStep, callStep, gotStep, getStep, withField, hasPutStep, putStep, instrStep, returnStep, codeStep, nextStep}
-use Rattle.machine_rules.specs.Sound.{rowOfObject, Is, fieldRows, SoundObject, Receives, main, object, SoundFrame, SoundBelow, bottom, waits, Sound}
-use Rattle.machine_rules.proofs.FoundLaws.{HasBody, body-found, HasField, field-found, lastOf-at}
+use Rattle.machine_rules.specs.Sound.{rowOfObject, Is, fieldRows, SoundObject, Receives, main, object, SoundFrame, slotLimit, SoundBelow, bottom, waits, Sound}
+use Rattle.machine_rules.proofs.FoundLaws.{HasBody, body-found, body-few, HasField, field-found, lastOf-at}
 use Rattle.machine_rules.proofs.StoreLaws.{Grows, grows-refl, grows-append, grows-set, is-grows, frame-grows, below-grows, SoundStore, store-append, store-set, is-fits, slot-is, slot-fits, values-fit, initial-fit}
 
 -- what comes next is the end, a step to a sound state, or stopped: never lacking
@@ -44,10 +44,15 @@ module _ (s : Sheet) (w : WellFormed s) (t : Typed s) (σ : State) (c : Sound s 
       let f : ℕ = (objectAt (σ .objects) o) .form in
       t .forms (formAt s f) (in-getD (s .forms) f noForm (c .store o h .form))
 
+  -- what is left of the top frame's code is typed once a slot of row a is filled, and there is room for that slot and the code's
+  record Left (a : ℕ) (is : List Instr) : Type 0 where
+    code : CodeTyped s (c .own) (c .result) (c .rows ++ (a ∷ [])) is
+    room : length (σ .top .slots) + length is < slotLimit
+
   -- the top frame moves on with one slot more, of row a, while the store grows
   moved-on : (os : List Object) → Grows (σ .objects) os → SoundStore s os → length os ≤ storeLimit
-      → (is : List Instr) (v a : ℕ) → CodeTyped s (c .own) (c .result) (c .rows ++ (a ∷ [])) is → Is s os v a → Sound s (movedOn os σ is v)
-  moved-on os g all few is v a code i =
+      → (is : List Instr) (v a : ℕ) → Left a is → Is s os v a → Sound s (movedOn os σ is v)
+  moved-on os g all few is v a left i =
       let f = frame-grows s (σ .objects) os g (c .top) in
       record {
         store = all;
@@ -55,20 +60,21 @@ module _ (s : Sheet) (w : WellFormed s) (t : Typed s) (σ : State) (c : Sound s 
         result = c .result;
         rows = c .rows ++ (a ∷ []);
         top = record { receives = f .receives; slots = pairwise-snoc (f .slots) i };
-        code = code;
+        code = left .code;
+        room = rw length-append (omega (arith, left .room));
         below = below-grows s (σ .objects) os g (c .below);
         places = few;
         height = c .height;
       }
 
   -- in place: the store stays as it is
-  worked : (is : List Instr) (v a : ℕ) → CodeTyped s (c .own) (c .result) (c .rows ++ (a ∷ [])) is → Is s (σ .objects) v a
+  worked : (is : List Instr) (v a : ℕ) → Left a is → Is s (σ .objects) v a
       → Sound s (movedOn (σ .objects) σ is v)
-  worked is v a code i = moved-on (σ .objects) (grows-refl (σ .objects)) (c .store) (c .places) is v a code i
+  worked is v a left i = moved-on (σ .objects) (grows-refl (σ .objects)) (c .store) (c .places) is v a left i
 
   new-goes : (is : List Instr) (f : ℕ) (ss : List ℕ) → f < length (s .forms) → Pairwise (SlotFits s (c .rows)) ss ((formAt s f) .keeps)
-      → CodeTyped s (c .own) (c .result) (c .rows ++ ((formAt s f) .row ∷ [])) is → Goes s (newStep s σ is f (slotValues (σ .top .slots) ss))
-  new-goes is f ss h fit code = go (ltb (length (σ .objects)) storeLimit) refl
+      → Left ((formAt s f) .row) is → Goes s (newStep s σ is f (slotValues (σ .top .slots) ss))
+  new-goes is f ss h fit left = go (ltb (length (σ .objects)) storeLimit) refl
     where
       kept : List ℕ
       kept = slotValues (σ .top .slots) ss
@@ -107,13 +113,13 @@ module _ (s : Sheet) (w : WellFormed s) (t : Typed s) (σ : State) (c : Sound s 
           → Goes s (cond b (step (creates (length (σ .objects)) kept) (withNew s σ is f kept)) storeFull)
       go true e =
           moves (moved-on os (grows-append (σ .objects) x) (store-append s (σ .objects) x (c .store) sound)
-          (omega (arith, l, ltb-true (length (σ .objects)) storeLimit e)) is (length (σ .objects)) ((formAt s f) .row) code is-x)
+          (omega (arith, l, ltb-true (length (σ .objects)) storeLimit e)) is (length (σ .objects)) ((formAt s f) .row) left is-x)
       go false e = store
 
   call-goes : (is : List Instr) (o n a : ℕ) (m : Signature) → o < length (c .rows) → methodIn (membersAt s (getD (c .rows) o 0)) n ≡ some m
-      → SlotFits s (c .rows) a (m .argument) → CodeTyped s (c .own) (c .result) (c .rows ++ (m .result ∷ [])) is
+      → SlotFits s (c .rows) a (m .argument) → Left (m .result) is
       → Goes s (callStep s σ is (getD (σ .top .slots) o 0) n (getD (σ .top .slots) a 0))
-  call-goes is o n a m h e fit code = go (ltb (frameCount σ) stackLimit) refl (bodyIn (membersAt s (f .row)) (f .parts) n) (has .lookedUp)
+  call-goes is o n a m h e fit left = go (ltb (frameCount σ) stackLimit) refl (bodyIn (membersAt s (f .row)) (f .parts) n) (has .lookedUp)
     where
       receiver : ℕ
       receiver = getD (σ .top .slots) o 0
@@ -130,6 +136,9 @@ module _ (s : Sheet) (w : WellFormed s) (t : Typed s) (σ : State) (c : Sound s 
       there : SoundObject s (σ .objects) (objectAt (σ .objects) receiver)
       there = c .store receiver (is-receiver .made)
 
+      wellFormed : WellFormedForm (s .rows) (length (s .forms)) f
+      wellFormed = w .forms f (in-getD (s .forms) ((objectAt (σ .objects) receiver) .form) noForm (there .form))
+
       found : Found s w (f .row) n m
       found = fits-method s w (f .row) (getD (c .rows) o 0) n m (is-receiver .fit) e
 
@@ -140,6 +149,12 @@ module _ (s : Sheet) (w : WellFormed s) (t : Typed s) (σ : State) (c : Sound s 
       is-argument =
           is-fits s (σ .objects) argument (m .argument) (found .found .argument)
           (slot-fits s (σ .objects) (σ .top .slots) (c .rows) a (m .argument) (c .top .slots) fit) (found .argumentFits)
+
+      kept-few : length ((objectAt (σ .objects) receiver) .kept) ≤ keepLimit
+      kept-few = omega (arith, pairwise-length (there .kept), wellFormed .few)
+
+      body-short : length (has .code) ≤ bodyLimit
+      body-short = body-few n (has .code) (wellFormed .parts) (has .lookedUp)
 
       own : Is s (σ .objects) receiver (f .row)
       own = record { made = is-receiver .made; fit = fits-refl (s .rows) (f .row) }
@@ -157,7 +172,8 @@ module _ (s : Sheet) (w : WellFormed s) (t : Typed s) (σ : State) (c : Sound s 
             rows = bodyRows f (found .found .argument);
             top = record { receives = object (is-receiver .made) refl; slots = pair own (pair is-argument (there .kept)) };
             code = subst (λ (x : List Instr). CodeTyped s (some (f .row)) (some (found .found .result)) (bodyRows f (found .found .argument)) x) same (has .typed);
-            below = waits (m .result) (record { receives = c .top .receives; slots = c .top .slots }) code (found .resultFits) (c .below);
+            room = omega (arith, kept-few, subst (λ (x : List Instr). length x ≤ bodyLimit) same body-short);
+            below = waits (m .result) (record { receives = c .top .receives; slots = c .top .slots }) (left .code) (left .room) (found .resultFits) (c .below);
             places = c .places;
             height = omega (arith, ltb-true (frameCount σ) stackLimit p);
           })
@@ -172,9 +188,9 @@ module _ (s : Sheet) (w : WellFormed s) (t : Typed s) (σ : State) (c : Sound s 
       (omega (arith, pairwise-length p, has .inside)))
 
   get-goes : (is : List Instr) (own : Option ℕ) (a : Own) (result : Option ℕ) (n r : ℕ) → Receives s (σ .objects) own a result → ownField s a n ≡ some r
-      → CodeTyped s (c .own) (c .result) (c .rows ++ (r ∷ [])) is → Goes s (getStep s σ is own n)
-  get-goes is none none none n r main e code = absurd (let z : _≡_ {A = ℕ} 0 1 = cc in omega arith)
-  get-goes is (some o) (some a) (some result) n r (object h p) e code = go (fieldPlace (membersOf s x) n) (has .lookedUp)
+      → Left r is → Goes s (getStep s σ is own n)
+  get-goes is none none none n r main e left = absurd (let z : _≡_ {A = ℕ} 0 1 = cc in omega arith)
+  get-goes is (some o) (some a) (some result) n r (object h p) e left = go (fieldPlace (membersOf s x) n) (has .lookedUp)
     where
       x : Object
       x = objectAt (σ .objects) o
@@ -186,12 +202,12 @@ module _ (s : Sheet) (w : WellFormed s) (t : Typed s) (σ : State) (c : Sound s 
       go none q = absurd (let z : _≡_ {A = ℕ} 0 1 = cc in omega arith)
       go (some i) q =
           let j : has .place ≡ i = cc in
-          moves (worked is (getD (x .fields) i 0) r code (subst (λ (k : ℕ). Is s (σ .objects) (getD (x .fields) k 0) r) j (field-is o n r h has)))
+          moves (worked is (getD (x .fields) i 0) r left (subst (λ (k : ℕ). Is s (σ .objects) (getD (x .fields) k 0) r) j (field-is o n r h has)))
 
   put-goes : (is : List Instr) (own : Option ℕ) (a : Own) (result : Option ℕ) (n v r : ℕ) → Receives s (σ .objects) own a result → ownField s a n ≡ some r
-      → Is s (σ .objects) v r → CodeTyped s (c .own) (c .result) (c .rows ++ (r ∷ [])) is → Goes s (putStep s σ is own n v)
-  put-goes is none none none n v r main e fit code = absurd (let z : _≡_ {A = ℕ} 0 1 = cc in omega arith)
-  put-goes is (some o) (some a) (some result) n v r (object h p) e fit code = go (fieldPlace (membersOf s x) n) (has .lookedUp)
+      → Is s (σ .objects) v r → Left r is → Goes s (putStep s σ is own n v)
+  put-goes is none none none n v r main e fit left = absurd (let z : _≡_ {A = ℕ} 0 1 = cc in omega arith)
+  put-goes is (some o) (some a) (some result) n v r (object h p) e fit left = go (fieldPlace (membersOf s x) n) (has .lookedUp)
     where
       x : Object
       x = objectAt (σ .objects) o
@@ -216,20 +232,20 @@ module _ (s : Sheet) (w : WellFormed s) (t : Typed s) (σ : State) (c : Sound s 
           let os : List Object = set (σ .objects) o y in
           let l : length os ≡ length (σ .objects) = length-set (σ .objects) o y in
           let g : Grows (σ .objects) os = grows-set (σ .objects) o y refl in
-          moves (moved-on os g (store-set s (σ .objects) o y refl (c .store) (sound i (cc))) (omega (arith, l, c .places)) is v r code
+          moves (moved-on os g (store-set s (σ .objects) o y refl (c .store) (sound i (cc))) (omega (arith, l, c .places)) is v r left
           (is-grows s (σ .objects) os g v r fit))
 
   instr-goes : (i : Instr) (is : List Instr) (a : ℕ) → InstrTyped s (c .own) (c .rows) i a
-      → CodeTyped s (c .own) (c .result) (c .rows ++ (a ∷ [])) is → Goes s (instrStep s σ i is)
+      → Left a is → Goes s (instrStep s σ i is)
   unfolding instrStep
-  instr-goes (new f ss) is a (typed-new h fit) code = new-goes is f ss h fit code
-  instr-goes (call o n v) is a (typed-call {m = m} h e fit) code = call-goes is o n v m h e fit code
-  instr-goes (get n) is a (typed-get e) code = get-goes is (σ .top .own) (c .own) (c .result) n a (c .top .receives) e code
-  instr-goes (put n v) is a (typed-put e fit) code =
+  instr-goes (new f ss) is a (typed-new h fit) left = new-goes is f ss h fit left
+  instr-goes (call o n v) is a (typed-call {m = m} h e fit) left = call-goes is o n v m h e fit left
+  instr-goes (get n) is a (typed-get e) left = get-goes is (σ .top .own) (c .own) (c .result) n a (c .top .receives) e left
+  instr-goes (put n v) is a (typed-put e fit) left =
       put-goes is (σ .top .own) (c .own) (c .result) n (getD (σ .top .slots) v 0) a (c .top .receives) e
-      (slot-fits s (σ .objects) (σ .top .slots) (c .rows) v a (c .top .slots) fit) code
-  instr-goes (copy v) is a (typed-copy h) code =
-      moves (worked is (getD (σ .top .slots) v 0) (getD (c .rows) v 0) code (slot-is s (σ .objects) (σ .top .slots) (c .rows) v (c .top .slots) h))
+      (slot-fits s (σ .objects) (σ .top .slots) (c .rows) v a (c .top .slots) fit) left
+  instr-goes (copy v) is a (typed-copy h) left =
+      moves (worked is (getD (σ .top .slots) v 0) (getD (c .rows) v 0) left (slot-is s (σ .objects) (σ .top .slots) (c .rows) v (c .top .slots) h))
 
   -- the value of the top frame at its end fits the row of its last slot
   last-is : 0 < length (c .rows) → Is s (σ .objects) (lastOf (σ .top .slots)) (lastRow (c .rows))
@@ -242,7 +258,7 @@ module _ (s : Sheet) (w : WellFormed s) (t : Typed s) (σ : State) (c : Sound s 
       → ResultFits s (lastRow (c .rows)) result → Goes s (returnStep σ fs)
   unfolding returnStep
   return-goes none [] bottom l h r = ends
-  return-goes (some r′) (f ∷ fs) (waits {own = own} {result = result} {rows = rows} r frame code fit below) l h (declared u) =
+  return-goes (some r′) (f ∷ fs) (waits {own = own} {result = result} {rows = rows} r frame code room fit below) l h (declared u) =
       let value : Is s (σ .objects) (lastOf (σ .top .slots)) r = is-fits s (σ .objects) (lastOf (σ .top .slots)) r′ r
       (is-fits s (σ .objects) (lastOf (σ .top .slots)) (lastRow (c .rows)) r′ (last-is h) u) fit in
       moves (record {
@@ -252,17 +268,18 @@ module _ (s : Sheet) (w : WellFormed s) (t : Typed s) (σ : State) (c : Sound s 
         rows = rows ++ (r ∷ []);
         top = record { receives = frame .receives; slots = pairwise-snoc (frame .slots) value };
         code = code;
+        room = rw length-append (omega arith);
         below = below;
         places = c .places;
         height = omega (arith, c .height);
       })
 
-  code-goes : (is : List Instr) → CodeTyped s (c .own) (c .result) (c .rows) is → Goes s (codeStep s σ is)
+  code-goes : (is : List Instr) → CodeTyped s (c .own) (c .result) (c .rows) is → length (σ .top .slots) + length is ≤ slotLimit → Goes s (codeStep s σ is)
   unfolding codeStep
-  code-goes [] (end h r) = return-goes (c .result) (σ .below) (c .below) (omega arith) h r
-  code-goes (i ∷ is) (next {a = a} h code) = instr-goes i is a h code
+  code-goes [] (end h r) room = return-goes (c .result) (σ .below) (c .below) (omega arith) h r
+  code-goes (i ∷ is) (next {a = a} h code) room = instr-goes i is a h (record { code = code; room = omega arith })
 
   -- preservation and progress: a sound state never lacks its next step, which leads to a sound state
   pub sound-goes : Goes s (nextStep s σ)
   unfolding nextStep
-  sound-goes = code-goes (σ .top .code) (c .code)
+  sound-goes = code-goes (σ .top .code) (c .code) (c .room)

@@ -16,8 +16,11 @@ use Rattle.type_rules.specs.Typed.{Typed}
 use Rattle.type_rules.proofs.TypingLaws.{accepted-typed}
 use Rattle.machine_rules.specs.State.{State, start}
 use Rattle.machine_rules.specs.Step.{Action, Next, finished, step, storeFull, stackFull, lacking, nextStep}
-use Rattle.machine_rules.specs.Steps.{stateOf, stepFrom, after}
+use Rattle.machine_rules.specs.declared.Outcome.{Outcome}
+use Rattle.machine_rules.specs.declared.Outcome.the-variants.{Done, Spent, StoreFull, StackFull}
+use Rattle.machine_rules.specs.Steps.{stateOf, stepFrom, after, run}
 use Rattle.machine_rules.specs.Sound.{main, bottom, Sound}
+use Rattle.machine_rules.proofs.StepsLaws.{Why, run-ends}
 use Rattle.machine_rules.proofs.NextSound.{Goes, ends, moves, store, stack, sound-goes}
 
 -- the state that a sound next step leaves is sound
@@ -38,6 +41,7 @@ module _ (s : Sheet) (w : WellFormed s) (t : Typed s) where
         rows = [];
         top = record { receives = main; slots = Pairwise.none };
         code = t .main;
+        room = omega (arith, w .main .few);
         below = bottom;
         places = omega arith;
         height = omega arith;
@@ -81,3 +85,15 @@ never-lacking text s e v n σ p q =
     go (step b τ) (moves d) q = let z : _≡_ {A = ℕ} 0 1 = cc in omega arith
     go storeFull store q = let z : _≡_ {A = ℕ} 0 1 = cc in omega arith
     go stackFull stack q = let z : _≡_ {A = ℕ} 0 1 = cc in omega arith
+
+-- so that a run of an accepted text is spent only when its steps are the budget
+pub spent-steps : (text : List ℕ) (s : Sheet) → meaning text ≡ readable s → verdict text ≡ Accepted
+    → (budget : ℕ) → (run s budget) .outcome ≡ Spent → (run s budget) .steps ≡ budget
+spent-steps text s e v budget p = go ((run s budget) .outcome) ((run-ends s budget) .why) p
+  where
+    go : (o : Outcome) → Why s budget ((run s budget) .steps) ((run s budget) .last) o → o ≡ Spent → (run s budget) .steps ≡ budget
+    go Done (Why.done q) p = absurd (let z : _≡_ {A = ℕ} 0 1 = cc in omega arith)
+    go Spent (Why.spent q r) p = q
+    go StoreFull (Why.store l q) p = absurd (let z : _≡_ {A = ℕ} 0 1 = cc in omega arith)
+    go StackFull (Why.stack l q) p = absurd (let z : _≡_ {A = ℕ} 0 1 = cc in omega arith)
+    go Spent (Why.lacks l q) p = absurd (never-lacking text s e v ((run s budget) .steps) ((run s budget) .last) ((run-ends s budget) .reached) q)

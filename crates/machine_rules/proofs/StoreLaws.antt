@@ -8,6 +8,7 @@ use mathlib.Core.Option.{Option, none, some}
 use lib.Dec.{T}
 use lib.ListN.{length, getD, set, length-append, length-set, List·getD-append}
 use lib.Seq.{getD-at, getD-set-same, getD-set-other}
+use Rattle.lists.specs.In.{In, here, there}
 use Rattle.lists.specs.Pairwise.{Pairwise, pair}
 use Rattle.lists.proofs.PairwiseLaws.{pairwise-length, pairwise-map, pairwise-at}
 use Rattle.sheet_rules.specs.declared.Member.{Member}
@@ -60,7 +61,7 @@ module _ (s : Sheet) (os os′ : List Object) (g : Grows os os′) where
 
   pub below-grows : {result : Option ℕ} {fs : List Frame} → SoundBelow s os result fs → SoundBelow s os′ result fs
   below-grows bottom = bottom
-  below-grows (waits r f c t b) = waits r (frame-grows f) c t (below-grows b)
+  below-grows (waits r f c l t b) = waits r (frame-grows f) c l t (below-grows b)
 
   pub object-grows : (x : Object) → SoundObject s os x → SoundObject s os′ x
   object-grows x h = record { form = h .form; kept = pairwise-map is-grows (h .kept); fields = pairwise-map is-grows (h .fields) }
@@ -93,6 +94,11 @@ store-set s os i x e all h o k = object-grows s os (set os i x) (grows-set os i 
     go (no p) = subst (SoundObject s os) (sym (getD-set-other os i o x noObject p)) (all o (omega (arith, l)))
 
 -- SLOTS
+
+-- what a sound list of values holds is made
+pub values-made : {s : Sheet} {os : List Object} {b : ℕ} {xs rows : List ℕ} → Pairwise (Is s os) xs rows → In b xs → b < length os
+values-made {os = os} (pair i p) (here e) = subst (λ (x : ℕ). x < length os) (sym e) (i .made)
+values-made (pair i p) (there j) = values-made p j
 
 module _ (s : Sheet) (os : List Object) where
   -- what fits a row also fits the rows that this row fits
