@@ -6,6 +6,7 @@ use mathlib.Core.Path.{_≡_, refl, subst}
 use mathlib.Core.List.{List, [], _∷_}
 use lib.Dec.{T}
 use lib.ListN.{getD}
+use Rattle.lists.proofs.Tests.{clash}
 use Rattle.sheet_rules.specs.Sheet.{Instr, new, call, get, put, copy, Sheet}
 use Rattle.sheet_rules.specs.WellFormed.{WellFormed}
 use Rattle.type_rules.specs.Typed.{InstrTyped, typed-new, typed-call, typed-get, typed-put, typed-copy, CodeTyped, end, next, Typed}
@@ -52,7 +53,7 @@ module _ (s : Sheet) (w : WellFormed s) (t : Typed s) (σ : State) (c : Sound s 
           let p : b ≡ a = cc in
           let q : τ ≡ σ′ = cc in
           subst (λ (y : State). Gains s σ a y) q (subst (λ (y : Action). Gains s σ y τ) p g)
-      go (finished v) ends e = absurd (let z : _≡_ {A = ℕ} 0 1 = cc in omega arith)
-      go storeFull store e = absurd (let z : _≡_ {A = ℕ} 0 1 = cc in omega arith)
-      go stackFull stack e = absurd (let z : _≡_ {A = ℕ} 0 1 = cc in omega arith)
-      go lacking lacks e = absurd (let z : _≡_ {A = ℕ} 0 1 = cc in omega arith)
+      go (finished v) ends e = clash (cc)
+      go storeFull store e = clash (cc)
+      go stackFull stack e = clash (cc)
+      go lacking lacks e = clash (cc)

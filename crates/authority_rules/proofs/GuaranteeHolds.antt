@@ -5,6 +5,7 @@ use native.Mathlib.Omega.{arith}
 use mathlib.Core.Path.{_≡_, refl}
 use mathlib.Core.List.{List}
 use mathlib.Core.Logic.{_⊎_, inl, inr}
+use Rattle.lists.proofs.Tests.{clash}
 use Rattle.sheet_rules.specs.Sheet.{Sheet}
 use Rattle.machine_rules.specs.State.{State}
 use Rattle.machine_rules.specs.Step.{Next, finished, step, storeFull, stackFull, nextStep}
@@ -32,15 +33,15 @@ exactly-one s σ g =
     go stackFull e stack = third (inr e)
 
     apart-step : (v : ℕ) → nextStep s σ ≡ finished v → CanStep s σ → ⊥
-    apart-step v e (a, σ′, f) = let z : _≡_ {A = ℕ} 0 1 = cc in omega arith
+    apart-step v e (a, σ′, f) = clash (cc)
 
     apart-stopped : (v : ℕ) → nextStep s σ ≡ finished v → Stopped s σ → ⊥
-    apart-stopped v e (inl f) = let z : _≡_ {A = ℕ} 0 1 = cc in omega arith
-    apart-stopped v e (inr f) = let z : _≡_ {A = ℕ} 0 1 = cc in omega arith
+    apart-stopped v e (inl f) = clash (cc)
+    apart-stopped v e (inr f) = clash (cc)
 
     apart-last : CanStep s σ → Stopped s σ → ⊥
-    apart-last (a, σ′, e) (inl f) = let z : _≡_ {A = ℕ} 0 1 = cc in omega arith
-    apart-last (a, σ′, e) (inr f) = let z : _≡_ {A = ℕ} 0 1 = cc in omega arith
+    apart-last (a, σ′, e) (inl f) = clash (cc)
+    apart-last (a, σ′, e) (inr f) = clash (cc)
 
 pub guarantee : Guaranteed
 guarantee text s readable accepted n σ reached =

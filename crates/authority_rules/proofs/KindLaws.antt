@@ -10,7 +10,7 @@ use lib.ListN.{length}
 use borrow.Author.Tests.{lt-ltb}
 use Rattle.lists.specs.In.{In, here, there}
 use Rattle.lists.specs.Pairwise.{Pairwise, pair}
-use Rattle.lists.proofs.Tests.{and-right, and-intro}
+use Rattle.lists.proofs.Tests.{and-right, and-intro, clash}
 use Rattle.sheet_rules.specs.declared.Kind.{Kind}
 use Rattle.sheet_rules.specs.declared.Kind.the-variants.{Pure, Resource}
 use Rattle.sheet_rules.specs.declared.Member.{Member}
@@ -27,7 +27,7 @@ use Rattle.authority_rules.specs.Authority.{isResourceKind, isResource}
 
 fieldIn-has : (ms : List Member) (n r : ℕ) → fieldIn ms n ≡ some r → T (hasField ms)
 unfolding fieldIn hasField
-fieldIn-has [] n r e = let z : _≡_ {A = ℕ} 0 1 = cc in omega arith
+fieldIn-has [] n r e = clash (cc)
 fieldIn-has (Field k b ∷ ms) n r e = tt
 fieldIn-has (Method k a b ∷ ms) n r e = fieldIn-has ms n r e
 

@@ -9,6 +9,7 @@ use mathlib.Core.Logic.{_↔_}
 use lib.Dec.{ltb}
 use lib.ListN.{length, getD}
 use borrow.Author.Tests.{ltb-false, le-ltb}
+use Rattle.lists.proofs.Tests.{clash}
 use Rattle.sheet_rules.specs.Limits.{storeLimit, stackLimit}
 use Rattle.sheet_rules.specs.Sheet.{Instr, new, call, get, put, copy, Sheet, formAt}
 use Rattle.machine_rules.specs.State.{Frame, State, frameCount, objectAt}
@@ -98,19 +99,19 @@ module _ (s : Sheet) (σ : State) where
     stopped-by-store = (λ e. go (nextStep s σ) next-stops e, λ p. code-new (σ .top .code) (p .0) (p .1))
       where
         go : (x : Next) → Stops σ (σ .top .code) x → x ≡ storeFull → NoPlace σ
-        go (finished v) ends e = absurd (let z : _≡_ {A = ℕ} 0 1 = cc in omega arith)
-        go (step a τ) moves e = absurd (let z : _≡_ {A = ℕ} 0 1 = cc in omega arith)
+        go (finished v) ends e = clash (cc)
+        go (step a τ) moves e = clash (cc)
         go storeFull (store n l) e = (n, omega (arith, c .places))
-        go stackFull (stack n l) e = absurd (let z : _≡_ {A = ℕ} 0 1 = cc in omega arith)
-        go lacking lacks e = absurd (let z : _≡_ {A = ℕ} 0 1 = cc in omega arith)
+        go stackFull (stack n l) e = clash (cc)
+        go lacking lacks e = clash (cc)
 
     pub stopped-by-stack : (nextStep s σ ≡ stackFull) ↔ NoFrame σ
     unfolding nextStep
     stopped-by-stack = (λ e. go (nextStep s σ) next-stops e, λ p. code-call (σ .top .code) (p .0) (p .1))
       where
         go : (x : Next) → Stops σ (σ .top .code) x → x ≡ stackFull → NoFrame σ
-        go (finished v) ends e = absurd (let z : _≡_ {A = ℕ} 0 1 = cc in omega arith)
-        go (step a τ) moves e = absurd (let z : _≡_ {A = ℕ} 0 1 = cc in omega arith)
-        go storeFull (store n l) e = absurd (let z : _≡_ {A = ℕ} 0 1 = cc in omega arith)
+        go (finished v) ends e = clash (cc)
+        go (step a τ) moves e = clash (cc)
+        go storeFull (store n l) e = clash (cc)
         go stackFull (stack n l) e = (n, omega (arith, c .height))
-        go lacking lacks e = absurd (let z : _≡_ {A = ℕ} 0 1 = cc in omega arith)
+        go lacking lacks e = clash (cc)

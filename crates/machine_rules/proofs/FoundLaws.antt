@@ -8,6 +8,7 @@ use mathlib.Core.Option.{Option, none, some}
 use lib.Dec.{eqb}
 use lib.ListN.{length, getD}
 use Rattle.lists.specs.Pairwise.{Pairwise, pair}
+use Rattle.lists.proofs.Tests.{clash}
 use Rattle.sheet_rules.specs.declared.Member.{Member}
 use Rattle.sheet_rules.specs.declared.Member.the-variants.{Method, Field}
 use Rattle.sheet_rules.specs.Limits.{bodyLimit}
@@ -28,7 +29,7 @@ pub record HasBody (s : Sheet) (f : Form) (ms : List Member) (ps : List Part) (n
 pub body-found : {s : Sheet} {f : Form} {ms : List Member} {ps : List Part} (n : ℕ) (m : Signature) → Pairwise (PartTyped s f) ms ps
     → methodIn ms n ≡ some m → HasBody s f ms ps n m
 unfolding methodIn bodyIn
-body-found n m Pairwise.none e = absurd (let z : _≡_ {A = ℕ} 0 1 = cc in omega arith)
+body-found n m Pairwise.none e = clash (cc)
 body-found n m (pair (typed-init h) p) e =
     let b = body-found n m p e in
     record { code = b .code; lookedUp = b .lookedUp; typed = b .typed }
@@ -47,7 +48,7 @@ body-found {s} {f} n m (pair {xs = ms} {ys = ps} (typed-body {n = k} {a = a} {r 
 pub body-few : {forms keeps : ℕ} {ms : List Member} {ps : List Part} (n : ℕ) (is : List Instr) → Pairwise (PartOf forms keeps) ms ps
     → bodyIn ms ps n ≡ some is → length is ≤ bodyLimit
 unfolding bodyIn
-body-few n is Pairwise.none e = absurd (let z : _≡_ {A = ℕ} 0 1 = cc in omega arith)
+body-few n is Pairwise.none e = clash (cc)
 body-few n is (pair (PartOf.field h) p) e = body-few n is p e
 body-few n is (pair {xs = ms} {ys = ps} (PartOf.method {n = k} {is = js} w) p) e = go (eqb k n) e (body-few n is p)
   where
@@ -64,7 +65,7 @@ pub record HasField (ms : List Member) (n r : ℕ) : Type 0 where
 
 pub field-found : (ms : List Member) (n r : ℕ) → fieldIn ms n ≡ some r → HasField ms n r
 unfolding fieldIn fieldPlace fieldRows
-field-found [] n r e = absurd (let z : _≡_ {A = ℕ} 0 1 = cc in omega arith)
+field-found [] n r e = clash (cc)
 field-found (Method k a b ∷ ms) n r e =
     let h = field-found ms n r e in
     record { place = h .place; lookedUp = h .lookedUp; inside = h .inside; row = h .row }

@@ -14,6 +14,7 @@ use Rattle.lists.specs.In.{In}
 use Rattle.lists.specs.Pairwise.{Pairwise, pair}
 use Rattle.lists.proofs.InLaws.{in-getD}
 use Rattle.lists.proofs.PairwiseLaws.{pairwise-length, pairwise-snoc, pairwise-at, pairwise-set}
+use Rattle.lists.proofs.Tests.{clash}
 use Rattle.sheet_rules.specs.declared.Member.{Member}
 use Rattle.sheet_rules.specs.declared.Member.the-variants.{Method, Field}
 use Rattle.sheet_rules.specs.Limits.{keepLimit, bodyLimit, storeLimit, stackLimit}
@@ -162,7 +163,7 @@ module _ (s : Sheet) (w : WellFormed s) (t : Typed s) (σ : State) (c : Sound s 
       go : (b : Bool) → ltb (frameCount σ) stackLimit ≡ b → (x : Option (List Instr)) → x ≡ some (has .code)
           → Goes s (cond b (calledStep σ is receiver argument x) stackFull)
       go false p x q = stack
-      go true p none q = absurd (let z : _≡_ {A = ℕ} 0 1 = cc in omega arith)
+      go true p none q = clash (cc)
       go true p (some is′) q =
           let same : has .code ≡ is′ = cc in
           moves (record {
@@ -189,7 +190,7 @@ module _ (s : Sheet) (w : WellFormed s) (t : Typed s) (σ : State) (c : Sound s 
 
   get-goes : (is : List Instr) (own : Option ℕ) (a : Own) (result : Option ℕ) (n r : ℕ) → Receives s (σ .objects) own a result → ownField s a n ≡ some r
       → Left r is → Goes s (getStep s σ is own n)
-  get-goes is none none none n r main e left = absurd (let z : _≡_ {A = ℕ} 0 1 = cc in omega arith)
+  get-goes is none none none n r main e left = clash (cc)
   get-goes is (some o) (some a) (some result) n r (object h p) e left = go (fieldPlace (membersOf s x) n) (has .lookedUp)
     where
       x : Object
@@ -199,14 +200,14 @@ module _ (s : Sheet) (w : WellFormed s) (t : Typed s) (σ : State) (c : Sound s 
       has = field-found (membersOf s x) n r (subst (λ (b : ℕ). fieldIn (membersAt s b) n ≡ some r) p e)
 
       go : (i : Option ℕ) → i ≡ some (has .place) → Goes s (gotStep σ is o i)
-      go none q = absurd (let z : _≡_ {A = ℕ} 0 1 = cc in omega arith)
+      go none q = clash (cc)
       go (some i) q =
           let j : has .place ≡ i = cc in
           moves (worked is (getD (x .fields) i 0) r left (subst (λ (k : ℕ). Is s (σ .objects) (getD (x .fields) k 0) r) j (field-is o n r h has)))
 
   put-goes : (is : List Instr) (own : Option ℕ) (a : Own) (result : Option ℕ) (n v r : ℕ) → Receives s (σ .objects) own a result → ownField s a n ≡ some r
       → Is s (σ .objects) v r → Left r is → Goes s (putStep s σ is own n v)
-  put-goes is none none none n v r main e fit left = absurd (let z : _≡_ {A = ℕ} 0 1 = cc in omega arith)
+  put-goes is none none none n v r main e fit left = clash (cc)
   put-goes is (some o) (some a) (some result) n v r (object h p) e fit left = go (fieldPlace (membersOf s x) n) (has .lookedUp)
     where
       x : Object
@@ -226,7 +227,7 @@ module _ (s : Sheet) (w : WellFormed s) (t : Typed s) (σ : State) (c : Sound s 
           }
 
       go : (i : Option ℕ) → i ≡ some (has .place) → Goes s (hasPutStep σ is o v i)
-      go none q = absurd (let z : _≡_ {A = ℕ} 0 1 = cc in omega arith)
+      go none q = clash (cc)
       go (some i) q =
           let y : Object = withField x i v in
           let os : List Object = set (σ .objects) o y in

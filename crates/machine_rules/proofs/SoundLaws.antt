@@ -5,6 +5,7 @@ use mathlib.Core.Path.{_≡_, refl, sym, ap, _∙_, subst}
 use mathlib.Core.List.{List, []}
 use mathlib.Core.Option.{Option, none, some}
 use Rattle.lists.specs.Pairwise.{Pairwise}
+use Rattle.lists.proofs.Tests.{clash}
 use Rattle.sheet_rules.specs.declared.Verdict.{Verdict}
 use Rattle.sheet_rules.specs.declared.Verdict.the-variants.{Accepted}
 use Rattle.sheet_rules.specs.Sheet.{Sheet}
@@ -25,10 +26,10 @@ use Rattle.machine_rules.proofs.NextSound.{Goes, ends, moves, store, st
 
 -- the state that a sound next step leaves is sound
 goes-sound : (s : Sheet) (σ : State) (x : Next) → Goes s x → stateOf x ≡ some σ → Sound s σ
-goes-sound s σ (finished v) ends e = absurd (let z : _≡_ {A = ℕ} 0 1 = cc in omega arith)
+goes-sound s σ (finished v) ends e = clash (cc)
 goes-sound s σ (step b τ) (moves d) e = subst (Sound s) (cc) d
-goes-sound s σ storeFull store e = absurd (let z : _≡_ {A = ℕ} 0 1 = cc in omega arith)
-goes-sound s σ stackFull stack e = absurd (let z : _≡_ {A = ℕ} 0 1 = cc in omega arith)
+goes-sound s σ storeFull store e = clash (cc)
+goes-sound s σ stackFull stack e = clash (cc)
 
 module _ (s : Sheet) (w : WellFormed s) (t : Typed s) where
   -- the start is sound
@@ -58,7 +59,7 @@ module _ (s : Sheet) (w : WellFormed s) (t : Typed s) where
   after-sound (suc n) σ e = go (after s n) (after-sound n) e
     where
       go : (x : Option State) → ((τ : State) → x ≡ some τ → Sound s τ) → stepFrom s x ≡ some σ → Sound s σ
-      go none earlier q = absurd (let z : _≡_ {A = ℕ} 0 1 = cc in omega arith)
+      go none earlier q = clash (cc)
       go (some τ) earlier q = goes-sound s σ (nextStep s τ) (sound-goes s w t τ (earlier τ refl)) q
 
 -- an accepted text's sheet is well formed and well typed
@@ -81,10 +82,10 @@ never-lacking text s e v n σ p q =
     go (nextStep s σ) (sound-goes s (a .0) (a .1) σ (after-sound s (a .0) (a .1) n σ p)) q
   where
     go : (x : Next) → Goes s x → x ≡ lacking → ⊥
-    go (finished v) ends q = let z : _≡_ {A = ℕ} 0 1 = cc in omega arith
-    go (step b τ) (moves d) q = let z : _≡_ {A = ℕ} 0 1 = cc in omega arith
-    go storeFull store q = let z : _≡_ {A = ℕ} 0 1 = cc in omega arith
-    go stackFull stack q = let z : _≡_ {A = ℕ} 0 1 = cc in omega arith
+    go (finished v) ends q = clash (cc)
+    go (step b τ) (moves d) q = clash (cc)
+    go storeFull store q = clash (cc)
+    go stackFull stack q = clash (cc)
 
 -- so that a run of an accepted text is spent only when its steps are the budget
 pub spent-steps : (text : List ℕ) (s : Sheet) → meaning text ≡ readable s → verdict text ≡ Accepted
@@ -92,8 +93,8 @@ pub spent-steps : (text : List ℕ) (s : Sheet) → meaning text ≡ readable s 
 spent-steps text s e v budget p = go ((run s budget) .outcome) ((run-ends s budget) .why) p
   where
     go : (o : Outcome) → Why s budget ((run s budget) .steps) ((run s budget) .last) o → o ≡ Spent → (run s budget) .steps ≡ budget
-    go Done (Why.done q) p = absurd (let z : _≡_ {A = ℕ} 0 1 = cc in omega arith)
+    go Done (Why.done q) p = clash (cc)
     go Spent (Why.spent q r) p = q
-    go StoreFull (Why.store l q) p = absurd (let z : _≡_ {A = ℕ} 0 1 = cc in omega arith)
-    go StackFull (Why.stack l q) p = absurd (let z : _≡_ {A = ℕ} 0 1 = cc in omega arith)
+    go StoreFull (Why.store l q) p = clash (cc)
+    go StackFull (Why.stack l q) p = clash (cc)
     go Spent (Why.lacks l q) p = absurd (never-lacking text s e v ((run s budget) .steps) ((run s budget) .last) ((run-ends s budget) .reached) q)

@@ -7,7 +7,7 @@ use mathlib.Core.List.{List, [], _∷_}
 use lib.Dec.{T, leb, leb→le}
 use lib.ListN.{length}
 use Rattle.lists.specs.In.{In}
-use Rattle.lists.proofs.Tests.{and-left, and-right}
+use Rattle.lists.proofs.Tests.{and-left, and-right, clash}
 use Rattle.sheet_rules.specs.declared.Key.{Key}
 use Rattle.sheet_rules.specs.declared.Reason.{Reason}
 use Rattle.sheet_rules.specs.declared.Reason.the-variants.{TextTooLong}
@@ -83,8 +83,8 @@ meaning-has P h text s e = go (leb (length text) textLimit) (readSheet (linesOf 
     go true (refused r n) its-refused e = absurd (apart r n e)
       where
         apart : (r : Reason) (n : ℕ) → unreadable r n ≡ readable s → ⊥
-        apart r n e = let z : _≡_ {A = ℕ} 0 1 = cc in omega arith
-    go false x p e = absurd (let z : _≡_ {A = ℕ} 0 1 = cc in omega arith)
+        apart r n e = clash (cc)
+    go false x p e = clash (cc)
 
 -- a sheet that a text means is well formed
 pub readable-wellFormed : (text : List ℕ) (s : Sheet) → meaning text ≡ readable s → WellFormed s

@@ -8,7 +8,7 @@ use mathlib.Core.Option.{Option, none, some}
 use lib.Dec.{T, eqb, eqb→eq}
 use borrow.Author.Tests.{eqb-true, eqb-false, eq-eqb, ne-eqb}
 use Rattle.lists.specs.In.{In, here, there}
-use Rattle.lists.proofs.Tests.{and-left, and-right}
+use Rattle.lists.proofs.Tests.{and-left, and-right, clash}
 use Rattle.sheet_rules.specs.declared.Kind.{Kind}
 use Rattle.sheet_rules.specs.declared.Kind.the-variants.{Pure, Resource}
 use Rattle.sheet_rules.specs.declared.Member.{Member}
@@ -29,7 +29,7 @@ signature a r = record { argument = a; result = r }
 -- the method that a look-up finds is a member
 methodIn-in : (xs : List Member) (n : ℕ) (m : Signature) → methodIn xs n ≡ some m → In (Method n (m .argument) (m .result)) xs
 unfolding methodIn
-methodIn-in [] n m e = absurd (let z : _≡_ {A = ℕ} 0 1 = cc in omega arith)
+methodIn-in [] n m e = clash (cc)
 methodIn-in (Field k r ∷ xs) n m e = there (methodIn-in xs n m e)
 methodIn-in (Method k a r ∷ xs) n m e = go (eqb k n) refl e (methodIn-in xs n m)
   where
@@ -49,7 +49,7 @@ names-from {i} {x} (y ∷ xs) (above h r) (there j) = let k : suc (nameOf y) ≤
 -- where names ascend, a method that is a member is the one that the look-up finds
 in-methodIn : {i : ℕ} (xs : List Member) (n a r : ℕ) → NamesAscend i xs → In (Method n a r) xs → methodIn xs n ≡ some (signature a r)
 unfolding methodIn
-in-methodIn (Field k b ∷ xs) n a r (above h p) (here e) = absurd (let z : _≡_ {A = ℕ} 0 1 = cc in omega arith)
+in-methodIn (Field k b ∷ xs) n a r (above h p) (here e) = clash (cc)
 in-methodIn (Field k b ∷ xs) n a r (above h p) (there j) = in-methodIn xs n a r p j
 in-methodIn (Method k b c ∷ xs) n a r (above h p) (here e) =
     let same : k ≡ n = cc in

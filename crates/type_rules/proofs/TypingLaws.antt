@@ -11,7 +11,7 @@ use lib.Seq.{getD-at}
 use Rattle.lists.specs.In.{In, here, there}
 use Rattle.lists.specs.Pairwise.{Pairwise, pair}
 use Rattle.lists.proofs.InLaws.{in-left, in-right}
-use Rattle.lists.proofs.Tests.{and-left, and-right, and-intro}
+use Rattle.lists.proofs.Tests.{and-left, and-right, and-intro, clash}
 use Rattle.sheet_rules.specs.declared.Member.{Member}
 use Rattle.sheet_rules.specs.declared.Member.the-variants.{Method, Field}
 use Rattle.sheet_rules.specs.declared.Reason.{Reason}
@@ -34,15 +34,15 @@ unfolding firstFault
 firstFault-faultless n [] e g i = elim i [ ]
 firstFault-faultless n (none ∷ gs) e g (here p) = p
 firstFault-faultless n (none ∷ gs) e g (there i) = firstFault-faultless (suc n) gs e g i
-firstFault-faultless n (some r ∷ gs) e g i = absurd (let z : _≡_ {A = ℕ} 0 1 = cc in omega arith)
+firstFault-faultless n (some r ∷ gs) e g i = clash (cc)
 
 unless-passed : (b : Bool) (r : Reason) → unless b r ≡ none → T b
 unless-passed true r e = tt
-unless-passed false r e = let z : _≡_ {A = ℕ} 0 1 = cc in omega arith
+unless-passed false r e = clash (cc)
 
 firstOf-none : (f g : Fault) → firstOf f g ≡ none → (f ≡ none) × (g ≡ none)
 firstOf-none none g e = (refl, e)
-firstOf-none (some r) g e = absurd (let z : _≡_ {A = ℕ} 0 1 = cc in omega arith)
+firstOf-none (some r) g e = clash (cc)
 
 module _ (s : Sheet) where
   -- INSTRUCTIONS
@@ -75,19 +75,19 @@ module _ (s : Sheet) where
     where
       go : (m : Option Signature) → methodIn (membersAt s (getD rows o 0)) n ≡ m → callFault (fits (s .rows)) m (getD rows a 0) ≡ none
           → InstrTyped s own rows (call o n a) (resultOf m)
-      go none p e = absurd (let z : _≡_ {A = ℕ} 0 1 = cc in omega arith)
+      go none p e = clash (cc)
       go (some m) p e =
           typed-call (ltb→lt o (length rows) (and-left (ltb o (length rows)) (ltb a (length rows)) t)) p
           (record { filled = ltb→lt a (length rows) (and-right (ltb o (length rows)) (ltb a (length rows)) t); fit = fit-passed (getD rows a 0) (m .argument) e })
   instr-typed own rows (get n) t e = go (ownField s own n) refl e
     where
       go : (r : Option ℕ) → ownField s own n ≡ r → getFault r ≡ none → InstrTyped s own rows (get n) (rowOr0 r)
-      go none p e = absurd (let z : _≡_ {A = ℕ} 0 1 = cc in omega arith)
+      go none p e = clash (cc)
       go (some r) p e = typed-get p
   instr-typed own rows (put n v) t e = go (ownField s own n) refl e
     where
       go : (r : Option ℕ) → ownField s own n ≡ r → putFault (fits (s .rows)) r (getD rows v 0) ≡ none → InstrTyped s own rows (put n v) (rowOr0 r)
-      go none p e = absurd (let z : _≡_ {A = ℕ} 0 1 = cc in omega arith)
+      go none p e = clash (cc)
       go (some r) p e = typed-put p (record { filled = ltb→lt v (length rows) t; fit = fit-passed (getD rows v 0) r e })
   instr-typed own rows (copy v) t e = typed-copy (ltb→lt v (length rows) t)
 
