@@ -1,29 +1,28 @@
 -- What a call may give: a receiver that is a resource gets the argument from the caller's authority. Assumes nothing.
-use Prim.Native.Nat.{ℕ, zero, suc, _≤_, _<_}
-use native.Mathlib.Omega.{arith}
-use mathlib.Core.Path.{_≡_, refl, sym, ap, _∙_, subst}
+use Prim.Native.Nat.{ℕ, _<_}
+use mathlib.Core.Path.{_≡_, refl, sym, subst}
 use mathlib.Core.Bool.{Bool, true, false, cond}
-use mathlib.Core.List.{List, [], _∷_, _++_}
+use mathlib.Core.List.{List, _∷_}
 use mathlib.Core.Option.{Option, none, some}
 use lib.Dec.{T, ltb}
 use lib.ListN.{length, getD}
 use Rattle.lists.specs.In.{In, here, there}
 use Rattle.lists.proofs.InLaws.{in-left}
-use Rattle.lists.proofs.PairwiseLaws.{pairwise-length, pairwise-at}
 use Rattle.lists.proofs.Tests.{true→T}
 use Rattle.sheet_rules.specs.Limits.{stackLimit}
-use Rattle.sheet_rules.specs.Sheet.{Instr, Sheet, formAt}
+use Rattle.sheet_rules.specs.Sheet.{Instr, Sheet}
 use Rattle.sheet_rules.specs.WellFormed.{WellFormed}
 use Rattle.type_rules.specs.Typed.{Typed}
 use Rattle.machine_rules.specs.State.{Object, Frame, State, frameCount, objectAt, past}
-use Rattle.machine_rules.specs.Step.{calls, step, stackFull, bodyIn, membersOf, entered, calledStep, callStep}
+use Rattle.machine_rules.specs.Step.{calls, stackFull, bodyIn, entered, calledStep, callStep}
 use Rattle.machine_rules.specs.Sound.{Sound}
 use Rattle.machine_rules.proofs.StoreLaws.{values-made}
-use Rattle.authority_rules.specs.Authority.{isResource, frames, holderOf, topHolder, ownValues}
+use Rattle.machine_rules.proofs.NextLaws.{its-step, its-stack, its-lack}
+use Rattle.authority_rules.specs.Authority.{isResource, frames, holderOf, topHolder}
 use Rattle.authority_rules.specs.Gain.{Gain, argument}
-use Rattle.authority_rules.proofs.HoldingLaws.{SlotOf, this, later, Reaches, by-slot, by-own, Holds, is-holds}
+use Rattle.authority_rules.proofs.HoldingLaws.{SlotOf, this, later, Reaches, by-slot, by-own, is-holds}
 use Rattle.authority_rules.proofs.KindLaws.{pure-keeps}
-use Rattle.authority_rules.proofs.GainWorks.{Gains, GainsNext, moves, stack, lacks, top-slot, top-value}
+use Rattle.authority_rules.proofs.GainWorks.{Gains, GainsNext, top-slot, top-value}
 
 -- a frame with its next instruction taken has the same holder and slots
 slot-past : {s : Sheet} {os : List Object} {h b : ℕ} (f : Frame) (fs : List Frame) (is : List Instr) → SlotOf s os h b (past f is ∷ fs) → SlotOf s os h b (f ∷ fs)
@@ -83,6 +82,6 @@ module _ (s : Sheet) (w : WellFormed s) (t : Typed s) (σ : State) (c : Sound s 
       value = getD (σ .top .slots) a 0
 
       go : (b : Bool) (code : Option (List Instr)) → GainsNext s σ (cond b (calledStep σ is receiver value code) stackFull)
-      go true none = lacks
-      go true (some code) = moves (call-gains is code receiver value (top-value s w t σ c o h) (top-value s w t σ c a k))
-      go false code = stack
+      go true none = its-lack tt
+      go true (some code) = its-step (call-gains is code receiver value (top-value s w t σ c o h) (top-value s w t σ c a k))
+      go false code = its-stack tt

@@ -1,9 +1,9 @@
 -- What a creation may give: the maker gets the new object, and the new object itself and the kept values from the maker's
 -- authority. Assumes nothing.
-use Prim.Native.Nat.{ℕ, zero, suc, _+_, _≤_, _<_}
+use Prim.Native.Nat.{ℕ, suc, _+_, _≤_, _<_}
 use native.Mathlib.Omega.{arith}
 use native.Mathlib.Decide.{decLe}
-use mathlib.Core.Path.{_≡_, refl, sym, ap, _∙_, subst}
+use mathlib.Core.Path.{_≡_, sym, _∙_, subst}
 use mathlib.Core.Bool.{Bool, true, false, cond}
 use mathlib.Core.List.{List, [], _∷_, _++_}
 use mathlib.Core.Logic.{_⊎_, inl, inr}
@@ -23,11 +23,12 @@ use Rattle.machine_rules.specs.State.{Object, State, noObject, objectAt, made, 
 use Rattle.machine_rules.specs.Step.{creates, step, storeFull, slotValues, withNew, newStep}
 use Rattle.machine_rules.specs.Sound.{Sound}
 use Rattle.machine_rules.proofs.StoreLaws.{values-made, Grows, grows-append, SoundStore}
-use Rattle.authority_rules.specs.Authority.{isResource, frames, topHolder, ownValues, contains, holds}
+use Rattle.machine_rules.proofs.NextLaws.{its-step, its-store}
+use Rattle.authority_rules.specs.Authority.{isResource, frames, topHolder, ownValues}
 use Rattle.authority_rules.specs.Gain.{Gain, maker, itself, endowed}
-use Rattle.authority_rules.proofs.HoldingLaws.{in-contains, SlotOf, Reaches, by-slot, by-own, resource-made, Holds, is-holds}
+use Rattle.authority_rules.proofs.HoldingLaws.{in-contains, SlotOf, Reaches, by-slot, by-own, resource-made, is-holds}
 use Rattle.authority_rules.proofs.StableLaws.{all-frames, slot-made, resource-same, slot-filled}
-use Rattle.authority_rules.proofs.GainWorks.{Gains, GainsNext, moves, store, top-slot}
+use Rattle.authority_rules.proofs.GainWorks.{Gains, GainsNext, top-slot}
 
 -- the values of filled slots are in the slots
 in-values : {s : Sheet} {b : ℕ} {rows ss bs : List ℕ} (slots : List ℕ) → length slots ≡ length rows → Pairwise (SlotFits s rows) ss bs
@@ -127,5 +128,5 @@ module _ (s : Sheet) (w : WellFormed s) (t : Typed s) (σ : State) (c : Sound s 
       kept = slotValues (σ .top .slots) ss
 
       go : (b : Bool) → GainsNext s σ (cond b (step (creates (length (σ .objects)) kept) (withNew s σ is f kept)) storeFull)
-      go true = moves (new-gains is f ss form fit)
-      go false = store
+      go true = its-step (new-gains is f ss form fit)
+      go false = its-store tt

@@ -1,32 +1,33 @@
 -- What a return may give: a frame that belongs to h gets the value of a frame of another resource. Assumes nothing.
-use Prim.Native.Nat.{ℕ, zero, suc, pred, _≤_, _<_}
+use Prim.Native.Nat.{ℕ, pred, _<_}
 use native.Mathlib.Omega.{arith}
 use native.Mathlib.Decide.{ℕ-discrete}
 use mathlib.Core.Path.{_≡_, refl, sym, ap, _∙_, subst}
 use mathlib.Core.Bool.{Bool, true, false, cond}
-use mathlib.Core.List.{List, [], _∷_, _++_}
+use mathlib.Core.List.{List, [], _∷_}
 use mathlib.Core.Option.{Option, none, some}
-use mathlib.Core.Logic.{_⊎_, inl, inr, _≢_}
+use mathlib.Core.Logic.{_⊎_, inl, inr}
 use lib.Dec.{T}
-use lib.ListN.{length, getD}
+use lib.ListN.{length}
 use Rattle.lists.specs.In.{In}
 use Rattle.lists.proofs.InLaws.{in-getD}
 use Rattle.lists.proofs.PairwiseLaws.{pairwise-length}
 use Rattle.lists.proofs.Tests.{true→T}
-use Rattle.sheet_rules.specs.Sheet.{Instr, Sheet}
+use Rattle.sheet_rules.specs.Sheet.{Sheet}
 use Rattle.sheet_rules.specs.WellFormed.{WellFormed}
 use Rattle.type_rules.specs.Typing.{Own}
 use Rattle.type_rules.specs.Typed.{Typed}
-use Rattle.machine_rules.specs.State.{Object, Frame, State, lastOf, filled}
+use Rattle.machine_rules.specs.State.{Frame, State, lastOf, filled}
 use Rattle.machine_rules.specs.Step.{returns, returnStep}
-use Rattle.machine_rules.specs.Sound.{Receives, main, object, SoundBelow, waits, Sound}
+use Rattle.machine_rules.specs.Sound.{Receives, object, SoundBelow, waits, Sound}
 use Rattle.machine_rules.proofs.StoreLaws.{grows-refl}
 use Rattle.machine_rules.proofs.FoundLaws.{lastOf-at}
+use Rattle.machine_rules.proofs.NextLaws.{its-step, its-end}
 use Rattle.authority_rules.specs.Authority.{isResource, frames, frameHolder, holderOf, topHolder}
 use Rattle.authority_rules.specs.Gain.{Gain, result}
-use Rattle.authority_rules.proofs.HoldingLaws.{SlotOf, later, Reaches, by-slot, by-own, Holds, is-holds}
+use Rattle.authority_rules.proofs.HoldingLaws.{SlotOf, later, Reaches, by-slot, by-own, is-holds}
 use Rattle.authority_rules.proofs.StableLaws.{below-frames, slot-filled}
-use Rattle.authority_rules.proofs.GainWorks.{Gains, GainsNext, moves, ends, top-slot}
+use Rattle.authority_rules.proofs.GainWorks.{Gains, GainsNext, top-slot}
 
 module _ (s : Sheet) (w : WellFormed s) (t : Typed s) (σ : State) (c : Sound s σ) where
   -- a frame above another belongs to a resource, or to the holder beneath
@@ -82,5 +83,5 @@ module _ (s : Sheet) (w : WellFormed s) (t : Typed s) (σ : State) (c : Sound s 
   pub return-gains-next : (result : Option ℕ) (fs : List Frame) → c .result ≡ result → σ .below ≡ fs → SoundBelow s (σ .objects) result fs → 0 < length (c .rows)
       → GainsNext s σ (returnStep σ fs)
   unfolding returnStep
-  return-gains-next none [] e d b l = ends
-  return-gains-next (some r) (f ∷ fs) e d (waits r′ frame code room fit b) l = moves (return-gains r f fs e d l)
+  return-gains-next none [] e d b l = its-end
+  return-gains-next (some r) (f ∷ fs) e d (waits r′ frame code room fit b) l = its-step (return-gains r f fs e d l)

@@ -1,11 +1,11 @@
 -- What a step may give a holder, and the steps that give nothing: `copy`, `get` and `put` fill a slot of the top frame with a value
 -- that the frame's holder has. Assumes nothing.
-use Prim.Native.Nat.{ℕ, zero, suc, _≤_, _<_}
+use Prim.Native.Nat.{ℕ, _<_}
 use native.Mathlib.Omega.{arith}
 use native.Mathlib.Decide.{ℕ-discrete}
 use mathlib.Core.Path.{_≡_, refl, sym, ap, _∙_, subst}
-use mathlib.Core.Bool.{Bool, true, false, cond}
-use mathlib.Core.List.{List, [], _∷_, _++_}
+use mathlib.Core.Bool.{Bool, cond}
+use mathlib.Core.List.{List}
 use mathlib.Core.Option.{Option, none, some}
 use mathlib.Core.Logic.{_⊎_, inl, inr}
 use lib.Dec.{T}
@@ -17,16 +17,16 @@ use Rattle.lists.proofs.PairwiseLaws.{pairwise-length}
 use Rattle.lists.proofs.Tests.{T→true}
 use Rattle.sheet_rules.specs.Sheet.{Instr, Sheet}
 use Rattle.sheet_rules.specs.WellFormed.{WellFormed}
-use Rattle.type_rules.specs.Typing.{fieldIn, membersAt, Own, ownField}
 use Rattle.type_rules.specs.Typed.{Typed}
 use Rattle.machine_rules.specs.State.{Object, State, noObject, objectAt}
-use Rattle.machine_rules.specs.Step.{Action, works, Next, finished, step, storeFull, stackFull, lacking, fieldPlace, membersOf, movedOn, gotStep, getStep, withField, hasPutStep, putStep}
-use Rattle.machine_rules.specs.Sound.{rowOfObject, fieldRows, Receives, main, object, Sound}
+use Rattle.machine_rules.specs.Step.{Action, works, Next, fieldPlace, membersOf, movedOn, gotStep, getStep, withField, hasPutStep, putStep}
+use Rattle.machine_rules.specs.Sound.{Sound}
 use Rattle.machine_rules.proofs.StoreLaws.{Grows, grows-refl, grows-set}
-use Rattle.machine_rules.proofs.FoundLaws.{HasField, field-found}
+use Rattle.machine_rules.proofs.NextLaws.{Comes, its-step, its-lack}
+use Rattle.machine_rules.proofs.FoundLaws.{HasField, field-found, OwnField, own-field}
 use Rattle.authority_rules.specs.Authority.{isResource, frames, frameHolder, holderOf, topHolder, ownValues}
 use Rattle.authority_rules.specs.Gain.{Gain}
-use Rattle.authority_rules.proofs.HoldingLaws.{SlotOf, this, later, Reaches, by-slot, by-own, resource-made, Holds}
+use Rattle.authority_rules.proofs.HoldingLaws.{SlotOf, this, Reaches, by-slot, by-own, resource-made, Holds}
 use Rattle.authority_rules.proofs.StableLaws.{all-frames, resource-same, slot-filled}
 use Rattle.authority_rules.proofs.KindLaws.{field-resource}
 
@@ -35,12 +35,8 @@ abbrev pub Gains : Sheet → State → Action → State → Type 0
 Gains s σ a σ′ = (h b : ℕ) → Holds s σ′ h b → (Holds s σ h b → ⊥) → Gain s σ h b a
 
 -- what comes next, if it is a step, gives no more than its action may
-pub data GainsNext (s : Sheet) (σ : State) : Next → Type 0 where
-  moves : {a : Action} {σ′ : State} → Gains s σ a σ′ → GainsNext s σ (step a σ′)
-  ends : {v : ℕ} → GainsNext s σ (finished v)
-  store : GainsNext s σ storeFull
-  stack : GainsNext s σ stackFull
-  lacks : GainsNext s σ lacking
+abbrev pub GainsNext : Sheet → State → Next → Type 0
+GainsNext s σ = Comes (Gains s σ) (Unit {0}) (Unit {0}) (Unit {0})
 
 module _ (s : Sheet) (w : WellFormed s) (t : Typed s) (σ : State) (c : Sound s σ) where
   -- the top frame's holder reaches its slots
@@ -81,42 +77,37 @@ module _ (s : Sheet) (w : WellFormed s) (t : Typed s) (σ : State) (c : Sound s 
   pub same-gains : (is : List Instr) (v : ℕ) → Reaches s (σ .objects) (frames σ) (topHolder s σ) v → Gains s σ works (movedOn (σ .objects) σ is v)
   same-gains is v top = works-gains (σ .objects) (grows-refl (σ .objects)) refl is v top (λ h b r i. by-own r i)
 
-  pub get-gains : (is : List Instr) (own : Option ℕ) (a : Own) (result : Option ℕ) (n r : ℕ) → σ .top .own ≡ own → Receives s (σ .objects) own a result
-      → ownField s a n ≡ some r → GainsNext s σ (getStep s σ is own n)
-  get-gains is none none none n r e main f = lacks
-  get-gains is (some o) (some a) (some result) n r e (object h p) f = go (fieldPlace (membersOf s x) n) (has .lookedUp)
+  pub get-gains : (is : List Instr) {own : Option ℕ} (n r : ℕ) → σ .top .own ≡ own → OwnField s (σ .objects) n r own
+      → GainsNext s σ (getStep s σ is own n)
+  get-gains is n r e (own-field {o = o} h f) = go (fieldPlace (membersOf s x) n) (has .lookedUp)
     where
       x : Object
       x = objectAt (σ .objects) o
 
-      found : fieldIn (membersOf s x) n ≡ some r
-      found = subst (λ (b : ℕ). fieldIn (membersAt s b) n ≡ some r) p f
-
       has : HasField (membersOf s x) n r
-      has = field-found (membersOf s x) n r found
+      has = field-found (membersOf s x) n r f
 
       resource : T (isResource s (σ .objects) o)
-      resource = field-resource s w t σ c o n r h found
+      resource = field-resource s w t σ c o n r h f
 
       go : (i : Option ℕ) → i ≡ some (has .place) → GainsNext s σ (gotStep σ is o i)
-      go none q = lacks
+      go none q = its-lack tt
       go (some i) q =
           let j : has .place ≡ i = cc in
           let inside : i < length (x .fields) = omega (arith, pairwise-length (c .store o h .fields), has .inside) in
-          moves (same-gains is (getD (x .fields) i 0)
+          its-step (same-gains is (getD (x .fields) i 0)
           (subst (λ (y : ℕ). Reaches s (σ .objects) (frames σ) y (getD (x .fields) i 0)) (sym (top-own o e resource))
           (by-own resource (there (in-right (x .kept) (x .fields) (in-getD (x .fields) i 0 inside))))))
 
-  pub put-gains : (is : List Instr) (own : Option ℕ) (a : Own) (result : Option ℕ) (n v r : ℕ) → σ .top .own ≡ own → Receives s (σ .objects) own a result
-      → ownField s a n ≡ some r → Reaches s (σ .objects) (frames σ) (topHolder s σ) v → GainsNext s σ (putStep s σ is own n v)
-  put-gains is none none none n v r e main f top = lacks
-  put-gains is (some o) (some a) (some result) n v r e (object h p) f top = go (fieldPlace (membersOf s x) n)
+  pub put-gains : (is : List Instr) {own : Option ℕ} (n v r : ℕ) → σ .top .own ≡ own → OwnField s (σ .objects) n r own
+      → Reaches s (σ .objects) (frames σ) (topHolder s σ) v → GainsNext s σ (putStep s σ is own n v)
+  put-gains is n v r e (own-field {o = o} h f) top = go (fieldPlace (membersOf s x) n)
     where
       x : Object
       x = objectAt (σ .objects) o
 
       resource : T (isResource s (σ .objects) o)
-      resource = field-resource s w t σ c o n r h (subst (λ (b : ℕ). fieldIn (membersAt s b) n ≡ some r) p f)
+      resource = field-resource s w t σ c o n r h f
 
       -- what the changed object has of its own, it reached before
       changed : (i b : ℕ) → In b (ownValues o (withField x i v)) → Reaches s (σ .objects) (frames σ) o b
@@ -148,7 +139,7 @@ module _ (s : Sheet) (w : WellFormed s) (t : Typed s) (σ : State) (c : Sound s 
           pick (no k) = by-own q (subst (λ (y : Object). In b (ownValues g y)) (getD-set-other (σ .objects) o g (withField x i v) noObject k) j)
 
       go : (i : Option ℕ) → GainsNext s σ (hasPutStep σ is o v i)
-      go none = lacks
+      go none = its-lack tt
       go (some i) =
-          moves (works-gains (set (σ .objects) o (withField x i v)) (grows-set (σ .objects) o (withField x i v) refl)
+          its-step (works-gains (set (σ .objects) o (withField x i v)) (grows-set (σ .objects) o (withField x i v) refl)
           (length-set (σ .objects) o (withField x i v)) is v top (own i))

@@ -1,10 +1,9 @@
 -- Pure objects and resources: an object with a field is a resource, and a pure object keeps pure objects alone. Assumes nothing.
-use Prim.Native.Nat.{ℕ, zero, suc, _<_}
-use native.Mathlib.Omega.{arith}
+use Prim.Native.Nat.{ℕ, _<_}
 use mathlib.Core.Path.{_≡_, refl, sym, ap, _∙_, subst}
-use mathlib.Core.Bool.{Bool, true, false, cond, _&&_}
+use mathlib.Core.Bool.{Bool, false, _&&_}
 use mathlib.Core.List.{List, [], _∷_}
-use mathlib.Core.Option.{Option, none, some}
+use mathlib.Core.Option.{some}
 use lib.Dec.{T, ltb, lt→ltb}
 use lib.ListN.{length}
 use borrow.Author.Tests.{lt-ltb}
@@ -15,12 +14,12 @@ use Rattle.sheet_rules.specs.declared.Kind.{Kind}
 use Rattle.sheet_rules.specs.declared.Kind.the-variants.{Pure, Resource}
 use Rattle.sheet_rules.specs.declared.Member.{Member}
 use Rattle.sheet_rules.specs.declared.Member.the-variants.{Method, Field}
-use Rattle.sheet_rules.specs.Sheet.{Sheet, rowAt, formAt, rowOfForm}
+use Rattle.sheet_rules.specs.Sheet.{Sheet, rowAt, rowOfForm}
 use Rattle.sheet_rules.specs.WellFormed.{WellFormed}
 use Rattle.type_rules.specs.Typing.{fieldIn, membersAt, isPure, hasField}
-use Rattle.type_rules.specs.Typed.{FormTyped, Typed}
+use Rattle.type_rules.specs.Typed.{Typed}
 use Rattle.type_rules.proofs.LookUpLaws.{fits-pure}
-use Rattle.machine_rules.specs.State.{Object, State, objectAt}
+use Rattle.machine_rules.specs.State.{State, objectAt}
 use Rattle.machine_rules.specs.Sound.{rowOfObject, Is, Sound}
 use Rattle.machine_rules.proofs.NextSound.{form-of}
 use Rattle.authority_rules.specs.Authority.{isResourceKind, isResource}

@@ -10,5 +10,4 @@ pub mod GainCreates
 pub mod GainCalls
 pub mod GainReturns
 pub mod GainLaws
-pub mod StoppedLaws
 pub mod GuaranteeHolds

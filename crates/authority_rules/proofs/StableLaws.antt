@@ -1,13 +1,12 @@
 -- What a step leaves as it is: resources stay resources, frames keep their holders, and what was in a holder's slots stays there;
 -- and what one slot more adds. Assumes nothing.
-use Prim.Native.Nat.{ℕ, zero, suc, _≤_, _<_}
+use Prim.Native.Nat.{ℕ, _<_}
 use native.Mathlib.Omega.{arith}
-use mathlib.Core.Path.{_≡_, refl, sym, ap, _∙_, subst}
-use mathlib.Core.Bool.{Bool, true, false, cond, _&&_}
-use mathlib.Core.List.{List, [], _∷_, _++_}
+use mathlib.Core.Path.{_≡_, refl, sym, ap, _∙_}
+use mathlib.Core.Bool.{Bool, cond, _&&_}
+use mathlib.Core.List.{List, [], _∷_}
 use mathlib.Core.Option.{Option}
 use mathlib.Core.Logic.{_⊎_, inl, inr}
-use lib.Dec.{T, ltb}
 use lib.ListN.{length}
 use borrow.Author.Tests.{lt-ltb}
 use Rattle.lists.specs.In.{In}
@@ -17,7 +16,7 @@ use Rattle.type_rules.specs.Typing.{Own}
 use Rattle.machine_rules.specs.State.{Object, Frame, State, objectAt, filled, past}
 use Rattle.machine_rules.specs.Sound.{Receives, main, object, SoundFrame, SoundBelow, bottom, waits, Sound}
 use Rattle.machine_rules.proofs.StoreLaws.{values-made, Grows}
-use Rattle.authority_rules.specs.Authority.{mainHolder, isResourceKind, isResource, frames, frameHolder, holderOf}
+use Rattle.authority_rules.specs.Authority.{isResourceKind, isResource, frames, frameHolder, holderOf}
 use Rattle.authority_rules.proofs.HoldingLaws.{SlotOf, this, later}
 
 -- sound frames, whatever they wait for

@@ -2,19 +2,18 @@
 -- every n and the state after n steps. GuaranteeHolds proves it. Stands on the verdict, the steps, authority and gain.
 use Prim.Native.Nat.{ℕ}
 use mathlib.Core.Path.{_≡_}
-use mathlib.Core.List.{List, _∷_}
-use mathlib.Core.Option.{Option, some}
+use mathlib.Core.List.{List}
+use mathlib.Core.Option.{some}
 use mathlib.Core.Logic.{_⊎_, _↔_}
 use lib.Dec.{T}
-use lib.ListN.{length}
 use Rattle.sheet_rules.specs.declared.Verdict.the-variants.{Accepted}
-use Rattle.sheet_rules.specs.Limits.{storeLimit, stackLimit}
-use Rattle.sheet_rules.specs.Sheet.{Instr, new, call, Sheet}
+use Rattle.sheet_rules.specs.Sheet.{Sheet}
 use Rattle.sheet_rules.specs.Reading.{readable, meaning}
 use Rattle.type_rules.specs.Typing.{verdict}
-use Rattle.machine_rules.specs.State.{State, frameCount}
+use Rattle.machine_rules.specs.State.{State}
 use Rattle.machine_rules.specs.Step.{Action, finished, step, storeFull, stackFull, nextStep}
 use Rattle.machine_rules.specs.Steps.{after}
+use Rattle.machine_rules.specs.Stopped.{NoPlace, NoFrame}
 use Rattle.authority_rules.specs.Authority.{holds}
 use Rattle.authority_rules.specs.Gain.{Gain}
 
@@ -43,24 +42,6 @@ pub record ExactlyOneOf (A B C : Type 0) : Type 0 where
   pub not-first-second : A → B → ⊥
   pub not-first-third : A → C → ⊥
   pub not-second-third : B → C → ⊥
-
--- WHEN IT IS STOPPED
-
--- the next instruction is a `new`
-pub data BeginsWithNew : List Instr → Type 0 where
-  a-new : {f : ℕ} {ss : List ℕ} {is : List Instr} → BeginsWithNew (new f ss ∷ is)
-
--- the next instruction is a `call`
-pub data BeginsWithCall : List Instr → Type 0 where
-  a-call : {o n a : ℕ} {is : List Instr} → BeginsWithCall (call o n a ∷ is)
-
--- a `new` with 256 objects
-abbrev pub NoPlace : State → Type 0
-NoPlace σ = BeginsWithNew (σ .top .code) × (length (σ .objects) ≡ storeLimit)
-
--- a `call` with 64 frames
-abbrev pub NoFrame : State → Type 0
-NoFrame σ = BeginsWithCall (σ .top .code) × (frameCount σ ≡ stackLimit)
 
 -- THE GUARANTEE
 

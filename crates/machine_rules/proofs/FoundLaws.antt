@@ -1,5 +1,5 @@
--- What look-ups find: the body of a method in a well-typed form, the place of a field, the last slot. Assumes nothing.
-use Prim.Native.Nat.{ℕ, zero, suc, pred, _≤_, _<_}
+-- What look-ups find: the body of a method in a well-typed form, the place of a field, the own object's field, the last slot. Assumes nothing.
+use Prim.Native.Nat.{ℕ, suc, pred, _≤_, _<_}
 use native.Mathlib.Omega.{arith}
 use mathlib.Core.Path.{_≡_, refl, ap, _∙_, subst}
 use mathlib.Core.Bool.{Bool, true, false, cond}
@@ -14,11 +14,11 @@ use Rattle.sheet_rules.specs.declared.Member.the-variants.{Method, Field}
 use Rattle.sheet_rules.specs.Limits.{bodyLimit}
 use Rattle.sheet_rules.specs.Sheet.{Instr, Part, body, Form, Sheet}
 use Rattle.sheet_rules.specs.WellFormed.{PartOf}
-use Rattle.type_rules.specs.Typing.{Signature, methodIn, fieldIn, bodyRows}
+use Rattle.type_rules.specs.Typing.{Signature, methodIn, fieldIn, membersAt, Own, ownField, bodyRows}
 use Rattle.type_rules.specs.Typed.{CodeTyped, PartTyped, typed-init, typed-body}
-use Rattle.machine_rules.specs.State.{lastOf}
-use Rattle.machine_rules.specs.Step.{bodyIn, nextPlace, fieldPlace}
-use Rattle.machine_rules.specs.Sound.{fieldRows}
+use Rattle.machine_rules.specs.State.{Object, objectAt, lastOf}
+use Rattle.machine_rules.specs.Step.{bodyIn, nextPlace, fieldPlace, membersOf}
+use Rattle.machine_rules.specs.Sound.{fieldRows, Receives, main, object}
 
 -- the body that a form has for a method of its row
 pub record HasBody (s : Sheet) (f : Form) (ms : List Member) (ps : List Part) (n : ℕ) (m : Signature) : Type 0 where
@@ -82,6 +82,15 @@ field-found (Field k b ∷ ms) n r e = go (eqb k n) refl e (field-found ms n r)
           inside = omega (arith, h .inside);
           row = h .row;
         }
+
+-- a frame's own object is there, and its row has field n, of row r
+pub data OwnField (s : Sheet) (os : List Object) (n r : ℕ) : Option ℕ → Type 0 where
+  own-field : {o : ℕ} → o < length os → fieldIn (membersOf s (objectAt os o)) n ≡ some r → OwnField s os n r (some o)
+
+pub own-found : {s : Sheet} {os : List Object} {own : Option ℕ} {a : Own} {result : Option ℕ} (n r : ℕ) → Receives s os own a result
+    → ownField s a n ≡ some r → OwnField s os n r own
+own-found n r main e = clash (cc)
+own-found {s} n r (object h p) e = own-field h (subst (λ (b : ℕ). fieldIn (membersAt s b) n ≡ some r) p e)
 
 pub lastOf-at : (xs : List ℕ) → lastOf xs ≡ getD xs (pred (length xs)) 0
 unfolding lastOf

@@ -1,42 +1,39 @@
 -- Preservation and progress: a sound state of a well-typed sheet never lacks its next step, which leads to a sound state. One
 -- lemma for each instruction and the return, one theorem over the next step. Assumes nothing.
-use Prim.Native.Nat.{ℕ, zero, suc, pred, _+_, _≤_, _<_}
+use Prim.Native.Nat.{ℕ, pred, _+_, _≤_, _<_}
 use native.Mathlib.Omega.{arith}
 use mathlib.Core.Path.{_≡_, refl, sym, ap, _∙_, subst}
 use mathlib.Core.Bool.{Bool, true, false, cond}
 use mathlib.Core.List.{List, [], _∷_, _++_}
 use mathlib.Core.Option.{Option, none, some}
-use lib.Dec.{T, eqb, ltb, ltb→lt}
+use lib.Dec.{T, ltb}
 use lib.ListN.{length, getD, set, length-append, length-set}
 use lib.Seq.{getD-append-seam}
-use borrow.Author.Tests.{ltb-true}
-use Rattle.lists.specs.In.{In}
+use borrow.Author.Tests.{ltb-true, ltb-false}
 use Rattle.lists.specs.Pairwise.{Pairwise, pair}
 use Rattle.lists.proofs.InLaws.{in-getD}
 use Rattle.lists.proofs.PairwiseLaws.{pairwise-length, pairwise-snoc, pairwise-at, pairwise-set}
 use Rattle.lists.proofs.Tests.{clash}
-use Rattle.sheet_rules.specs.declared.Member.{Member}
-use Rattle.sheet_rules.specs.declared.Member.the-variants.{Method, Field}
 use Rattle.sheet_rules.specs.Limits.{keepLimit, bodyLimit, storeLimit, stackLimit}
-use Rattle.sheet_rules.specs.Sheet.{Instr, new, call, get, put, copy, Part, init, body, Form, Sheet, noForm, formAt}
+use Rattle.sheet_rules.specs.Sheet.{Instr, new, call, get, put, copy, Form, Sheet, noForm, formAt}
 use Rattle.sheet_rules.specs.WellFormed.{WellFormedForm, WellFormed}
 use Rattle.type_rules.specs.Fit.{fits}
-use Rattle.type_rules.specs.Typing.{Signature, methodIn, fieldIn, membersAt, Own, ownField, bodyRows}
-use Rattle.type_rules.specs.Typed.{SlotFits, InstrTyped, typed-new, typed-call, typed-get, typed-put, typed-copy, ResultFits, undeclared, declared, lastRow, CodeTyped, end, next, PartTyped, typed-init, typed-body, FormTyped, Typed}
+use Rattle.type_rules.specs.Typing.{Signature, methodIn, membersAt, bodyRows}
+use Rattle.type_rules.specs.Typed.{SlotFits, InstrTyped, typed-new, typed-call, typed-get, typed-put, typed-copy, ResultFits, declared, lastRow, CodeTyped, end, next, FormTyped, Typed}
 use Rattle.type_rules.proofs.FitLaws.{fits-refl}
 use Rattle.type_rules.proofs.LookUpLaws.{Found, fits-method}
-use Rattle.machine_rules.specs.State.{Object, Frame, State, frameCount, noObject, objectAt, made, initialFields, lastOf}
-use Rattle.machine_rules.specs.Step.{Next, finished, step, storeFull, stackFull, lacking, Action, creates, calls, returns, works, bodyIn, nextPlace, fieldPlace, membersOf, slotValues, movedOn, withNew, newStep, entered, calledStep, callStep, gotStep, getStep, withField, hasPutStep, putStep, instrStep, returnStep, codeStep, nextStep}
-use Rattle.machine_rules.specs.Sound.{rowOfObject, Is, fieldRows, SoundObject, Receives, main, object, SoundFrame, slotLimit, SoundBelow, bottom, waits, Sound}
-use Rattle.machine_rules.proofs.FoundLaws.{HasBody, body-found, body-few, HasField, field-found, lastOf-at}
+use Rattle.machine_rules.specs.State.{Object, Frame, State, frameCount, noObject, objectAt, made, lastOf}
+use Rattle.machine_rules.specs.Step.{Next, step, storeFull, stackFull, creates, bodyIn, fieldPlace, membersOf, slotValues, movedOn, withNew, newStep, calledStep, callStep, gotStep, getStep, withField, hasPutStep, putStep, instrStep, returnStep, codeStep, nextStep}
+use Rattle.machine_rules.specs.Stopped.{BeginsWithNew, a-new, BeginsWithCall, a-call}
+use Rattle.machine_rules.specs.Sound.{Is, fieldRows, SoundObject, object, slotLimit, SoundBelow, bottom, waits, Sound}
+use Rattle.machine_rules.proofs.NextLaws.{Comes, its-end, its-step, its-store, its-stack}
+use Rattle.machine_rules.proofs.FoundLaws.{HasBody, body-found, body-few, HasField, field-found, OwnField, own-field, own-found, lastOf-at}
 use Rattle.machine_rules.proofs.StoreLaws.{Grows, grows-refl, grows-append, grows-set, is-grows, frame-grows, below-grows, SoundStore, store-append, store-set, is-fits, slot-is, slot-fits, values-fit, initial-fit}
 
--- what comes next is the end, a step to a sound state, or stopped: never lacking
-pub data Goes (s : Sheet) : Next → Type 0 where
-  ends : {v : ℕ} → Goes s (finished v)
-  moves : {a : Action} {σ : State} → Sound s σ → Goes s (step a σ)
-  store : Goes s storeFull
-  stack : Goes s stackFull
+-- what comes next after the given code of the top frame: the end, a step to a sound state, or stopped for its reason; never lacking
+abbrev pub Goes : Sheet → State → List Instr → Next → Type 0
+Goes s σ is =
+    Comes (λ a σ′. Sound s σ′) (BeginsWithNew is × (length (σ .objects) ≡ storeLimit)) (BeginsWithCall is × (frameCount σ ≡ stackLimit)) ⊥
 
 module _ (s : Sheet) (w : WellFormed s) (t : Typed s) (σ : State) (c : Sound s σ) where
   -- the form of an object is well typed
@@ -74,7 +71,7 @@ module _ (s : Sheet) (w : WellFormed s) (t : Typed s) (σ : State) (c : Sound s 
   worked is v a left i = moved-on (σ .objects) (grows-refl (σ .objects)) (c .store) (c .places) is v a left i
 
   new-goes : (is : List Instr) (f : ℕ) (ss : List ℕ) → f < length (s .forms) → Pairwise (SlotFits s (c .rows)) ss ((formAt s f) .keeps)
-      → Left ((formAt s f) .row) is → Goes s (newStep s σ is f (slotValues (σ .top .slots) ss))
+      → Left ((formAt s f) .row) is → Goes s σ (new f ss ∷ is) (newStep s σ is f (slotValues (σ .top .slots) ss))
   new-goes is f ss h fit left = go (ltb (length (σ .objects)) storeLimit) refl
     where
       kept : List ℕ
@@ -111,15 +108,15 @@ module _ (s : Sheet) (w : WellFormed s) (t : Typed s) (σ : State) (c : Sound s 
           }
 
       go : (b : Bool) → ltb (length (σ .objects)) storeLimit ≡ b
-          → Goes s (cond b (step (creates (length (σ .objects)) kept) (withNew s σ is f kept)) storeFull)
+          → Goes s σ (new f ss ∷ is) (cond b (step (creates (length (σ .objects)) kept) (withNew s σ is f kept)) storeFull)
       go true e =
-          moves (moved-on os (grows-append (σ .objects) x) (store-append s (σ .objects) x (c .store) sound)
+          its-step (moved-on os (grows-append (σ .objects) x) (store-append s (σ .objects) x (c .store) sound)
           (omega (arith, l, ltb-true (length (σ .objects)) storeLimit e)) is (length (σ .objects)) ((formAt s f) .row) left is-x)
-      go false e = store
+      go false e = its-store (a-new, omega (arith, ltb-false (length (σ .objects)) storeLimit e, c .places))
 
   call-goes : (is : List Instr) (o n a : ℕ) (m : Signature) → o < length (c .rows) → methodIn (membersAt s (getD (c .rows) o 0)) n ≡ some m
       → SlotFits s (c .rows) a (m .argument) → Left (m .result) is
-      → Goes s (callStep s σ is (getD (σ .top .slots) o 0) n (getD (σ .top .slots) a 0))
+      → Goes s σ (call o n a ∷ is) (callStep s σ is (getD (σ .top .slots) o 0) n (getD (σ .top .slots) a 0))
   call-goes is o n a m h e fit left = go (ltb (frameCount σ) stackLimit) refl (bodyIn (membersAt s (f .row)) (f .parts) n) (has .lookedUp)
     where
       receiver : ℕ
@@ -161,12 +158,12 @@ module _ (s : Sheet) (w : WellFormed s) (t : Typed s) (σ : State) (c : Sound s 
       own = record { made = is-receiver .made; fit = fits-refl (s .rows) (f .row) }
 
       go : (b : Bool) → ltb (frameCount σ) stackLimit ≡ b → (x : Option (List Instr)) → x ≡ some (has .code)
-          → Goes s (cond b (calledStep σ is receiver argument x) stackFull)
-      go false p x q = stack
+          → Goes s σ (call o n a ∷ is) (cond b (calledStep σ is receiver argument x) stackFull)
+      go false p x q = its-stack (a-call, omega (arith, ltb-false (frameCount σ) stackLimit p, c .height))
       go true p none q = clash (cc)
       go true p (some is′) q =
           let same : has .code ≡ is′ = cc in
-          moves (record {
+          its-step (record {
             store = c .store;
             own = some (f .row);
             result = some (found .found .result);
@@ -188,33 +185,30 @@ module _ (s : Sheet) (w : WellFormed s) (t : Typed s) (σ : State) (c : Sound s 
       (pairwise-at ((objectAt (σ .objects) o) .fields) (fieldRows (membersOf s (objectAt (σ .objects) o))) (has .place) 0 0 p
       (omega (arith, pairwise-length p, has .inside)))
 
-  get-goes : (is : List Instr) (own : Option ℕ) (a : Own) (result : Option ℕ) (n r : ℕ) → Receives s (σ .objects) own a result → ownField s a n ≡ some r
-      → Left r is → Goes s (getStep s σ is own n)
-  get-goes is none none none n r main e left = clash (cc)
-  get-goes is (some o) (some a) (some result) n r (object h p) e left = go (fieldPlace (membersOf s x) n) (has .lookedUp)
+  get-goes : (js is : List Instr) {own : Option ℕ} (n r : ℕ) → OwnField s (σ .objects) n r own → Left r is → Goes s σ js (getStep s σ is own n)
+  get-goes js is n r (own-field {o = o} h f) left = go (fieldPlace (membersOf s x) n) (has .lookedUp)
     where
       x : Object
       x = objectAt (σ .objects) o
 
       has : HasField (membersOf s x) n r
-      has = field-found (membersOf s x) n r (subst (λ (b : ℕ). fieldIn (membersAt s b) n ≡ some r) p e)
+      has = field-found (membersOf s x) n r f
 
-      go : (i : Option ℕ) → i ≡ some (has .place) → Goes s (gotStep σ is o i)
+      go : (i : Option ℕ) → i ≡ some (has .place) → Goes s σ js (gotStep σ is o i)
       go none q = clash (cc)
       go (some i) q =
           let j : has .place ≡ i = cc in
-          moves (worked is (getD (x .fields) i 0) r left (subst (λ (k : ℕ). Is s (σ .objects) (getD (x .fields) k 0) r) j (field-is o n r h has)))
+          its-step (worked is (getD (x .fields) i 0) r left (subst (λ (k : ℕ). Is s (σ .objects) (getD (x .fields) k 0) r) j (field-is o n r h has)))
 
-  put-goes : (is : List Instr) (own : Option ℕ) (a : Own) (result : Option ℕ) (n v r : ℕ) → Receives s (σ .objects) own a result → ownField s a n ≡ some r
-      → Is s (σ .objects) v r → Left r is → Goes s (putStep s σ is own n v)
-  put-goes is none none none n v r main e fit left = clash (cc)
-  put-goes is (some o) (some a) (some result) n v r (object h p) e fit left = go (fieldPlace (membersOf s x) n) (has .lookedUp)
+  put-goes : (js is : List Instr) {own : Option ℕ} (n v r : ℕ) → OwnField s (σ .objects) n r own → Is s (σ .objects) v r → Left r is
+      → Goes s σ js (putStep s σ is own n v)
+  put-goes js is n v r (own-field {o = o} h f) fit left = go (fieldPlace (membersOf s x) n) (has .lookedUp)
     where
       x : Object
       x = objectAt (σ .objects) o
 
       has : HasField (membersOf s x) n r
-      has = field-found (membersOf s x) n r (subst (λ (b : ℕ). fieldIn (membersAt s b) n ≡ some r) p e)
+      has = field-found (membersOf s x) n r f
 
       sound : (i : ℕ) → has .place ≡ i → SoundObject s (σ .objects) (withField x i v)
       sound i j =
@@ -226,27 +220,27 @@ module _ (s : Sheet) (w : WellFormed s) (t : Typed s) (σ : State) (c : Sound s 
                 (subst (Is s (σ .objects) v) (sym (has .row) ∙ ap (λ (k : ℕ). getD (fieldRows (membersOf s x)) k 0) j) fit);
           }
 
-      go : (i : Option ℕ) → i ≡ some (has .place) → Goes s (hasPutStep σ is o v i)
+      go : (i : Option ℕ) → i ≡ some (has .place) → Goes s σ js (hasPutStep σ is o v i)
       go none q = clash (cc)
       go (some i) q =
           let y : Object = withField x i v in
           let os : List Object = set (σ .objects) o y in
           let l : length os ≡ length (σ .objects) = length-set (σ .objects) o y in
           let g : Grows (σ .objects) os = grows-set (σ .objects) o y refl in
-          moves (moved-on os g (store-set s (σ .objects) o y refl (c .store) (sound i (cc))) (omega (arith, l, c .places)) is v r left
+          its-step (moved-on os g (store-set s (σ .objects) o y refl (c .store) (sound i (cc))) (omega (arith, l, c .places)) is v r left
           (is-grows s (σ .objects) os g v r fit))
 
   instr-goes : (i : Instr) (is : List Instr) (a : ℕ) → InstrTyped s (c .own) (c .rows) i a
-      → Left a is → Goes s (instrStep s σ i is)
+      → Left a is → Goes s σ (i ∷ is) (instrStep s σ i is)
   unfolding instrStep
   instr-goes (new f ss) is a (typed-new h fit) left = new-goes is f ss h fit left
   instr-goes (call o n v) is a (typed-call {m = m} h e fit) left = call-goes is o n v m h e fit left
-  instr-goes (get n) is a (typed-get e) left = get-goes is (σ .top .own) (c .own) (c .result) n a (c .top .receives) e left
+  instr-goes (get n) is a (typed-get e) left = get-goes (get n ∷ is) is n a (own-found n a (c .top .receives) e) left
   instr-goes (put n v) is a (typed-put e fit) left =
-      put-goes is (σ .top .own) (c .own) (c .result) n (getD (σ .top .slots) v 0) a (c .top .receives) e
+      put-goes (put n v ∷ is) is n (getD (σ .top .slots) v 0) a (own-found n a (c .top .receives) e)
       (slot-fits s (σ .objects) (σ .top .slots) (c .rows) v a (c .top .slots) fit) left
   instr-goes (copy v) is a (typed-copy h) left =
-      moves (worked is (getD (σ .top .slots) v 0) (getD (c .rows) v 0) left (slot-is s (σ .objects) (σ .top .slots) (c .rows) v (c .top .slots) h))
+      its-step (worked is (getD (σ .top .slots) v 0) (getD (c .rows) v 0) left (slot-is s (σ .objects) (σ .top .slots) (c .rows) v (c .top .slots) h))
 
   -- the value of the top frame at its end fits the row of its last slot
   last-is : 0 < length (c .rows) → Is s (σ .objects) (lastOf (σ .top .slots)) (lastRow (c .rows))
@@ -256,13 +250,13 @@ module _ (s : Sheet) (w : WellFormed s) (t : Typed s) (σ : State) (c : Sound s 
       (slot-is s (σ .objects) (σ .top .slots) (c .rows) (pred (length (c .rows))) (c .top .slots) (omega arith))
 
   return-goes : (result : Option ℕ) (fs : List Frame) → SoundBelow s (σ .objects) result fs → length fs ≤ length (σ .below) → 0 < length (c .rows)
-      → ResultFits s (lastRow (c .rows)) result → Goes s (returnStep σ fs)
+      → ResultFits s (lastRow (c .rows)) result → Goes s σ [] (returnStep σ fs)
   unfolding returnStep
-  return-goes none [] bottom l h r = ends
+  return-goes none [] bottom l h r = its-end
   return-goes (some r′) (f ∷ fs) (waits {own = own} {result = result} {rows = rows} r frame code room fit below) l h (declared u) =
       let value : Is s (σ .objects) (lastOf (σ .top .slots)) r = is-fits s (σ .objects) (lastOf (σ .top .slots)) r′ r
       (is-fits s (σ .objects) (lastOf (σ .top .slots)) (lastRow (c .rows)) r′ (last-is h) u) fit in
-      moves (record {
+      its-step (record {
         store = c .store;
         own = own;
         result = result;
@@ -275,12 +269,12 @@ module _ (s : Sheet) (w : WellFormed s) (t : Typed s) (σ : State) (c : Sound s 
         height = omega (arith, c .height);
       })
 
-  code-goes : (is : List Instr) → CodeTyped s (c .own) (c .result) (c .rows) is → length (σ .top .slots) + length is ≤ slotLimit → Goes s (codeStep s σ is)
+  code-goes : (is : List Instr) → CodeTyped s (c .own) (c .result) (c .rows) is → length (σ .top .slots) + length is ≤ slotLimit → Goes s σ is (codeStep s σ is)
   unfolding codeStep
   code-goes [] (end h r) room = return-goes (c .result) (σ .below) (c .below) (omega arith) h r
   code-goes (i ∷ is) (next {a = a} h code) room = instr-goes i is a h (record { code = code; room = omega arith })
 
-  -- preservation and progress: a sound state never lacks its next step, which leads to a sound state
-  pub sound-goes : Goes s (nextStep s σ)
+  -- preservation and progress: a sound state never lacks its next step, which leads to a sound state or is stopped for its reason
+  pub sound-goes : Goes s σ (σ .top .code) (nextStep s σ)
   unfolding nextStep
   sound-goes = code-goes (σ .top .code) (c .code) (c .room)

@@ -6,13 +6,12 @@ use mathlib.Core.List.{List, []}
 use mathlib.Core.Option.{Option, none, some}
 use Rattle.lists.specs.Pairwise.{Pairwise}
 use Rattle.lists.proofs.Tests.{clash}
-use Rattle.sheet_rules.specs.declared.Verdict.{Verdict}
 use Rattle.sheet_rules.specs.declared.Verdict.the-variants.{Accepted}
 use Rattle.sheet_rules.specs.Sheet.{Sheet}
 use Rattle.sheet_rules.specs.WellFormed.{WellFormed}
 use Rattle.sheet_rules.specs.Reading.{readable, meaning}
 use Rattle.sheet_rules.proofs.ReadingLaws.{readable-wellFormed}
-use Rattle.type_rules.specs.Typing.{typing, verdictOn, verdict}
+use Rattle.type_rules.specs.Typing.{verdictOn, verdict}
 use Rattle.type_rules.specs.Typed.{Typed}
 use Rattle.type_rules.proofs.TypingLaws.{accepted-typed}
 use Rattle.machine_rules.specs.State.{State, start}
@@ -22,14 +21,16 @@ use Rattle.machine_rules.specs.declared.Outcome.the-variants.{Done, Spen
 use Rattle.machine_rules.specs.Steps.{stateOf, stepFrom, after, run}
 use Rattle.machine_rules.specs.Sound.{main, bottom, Sound}
 use Rattle.machine_rules.proofs.StepsLaws.{Why, run-ends}
-use Rattle.machine_rules.proofs.NextSound.{Goes, ends, moves, store, stack, sound-goes}
+use Rattle.machine_rules.proofs.NextLaws.{comes-step, comes-lack}
+use Rattle.machine_rules.proofs.NextSound.{sound-goes}
 
--- the state that a sound next step leaves is sound
-goes-sound : (s : Sheet) (σ : State) (x : Next) → Goes s x → stateOf x ≡ some σ → Sound s σ
-goes-sound s σ (finished v) ends e = clash (cc)
-goes-sound s σ (step b τ) (moves d) e = subst (Sound s) (cc) d
-goes-sound s σ storeFull store e = clash (cc)
-goes-sound s σ stackFull stack e = clash (cc)
+-- a state that a step leaves was left by a step
+stateOf-step : (x : Next) (σ : State) → stateOf x ≡ some σ → (a : Action) × (x ≡ step a σ)
+stateOf-step (finished v) σ e = clash (cc)
+stateOf-step (step a τ) σ e = (a, cc)
+stateOf-step storeFull σ e = clash (cc)
+stateOf-step stackFull σ e = clash (cc)
+stateOf-step lacking σ e = clash (cc)
 
 module _ (s : Sheet) (w : WellFormed s) (t : Typed s) where
   -- the start is sound
@@ -50,7 +51,7 @@ module _ (s : Sheet) (w : WellFormed s) (t : Typed s) where
 
   -- a step keeps it
   pub step-sound : (σ σ′ : State) (a : Action) → Sound s σ → nextStep s σ ≡ step a σ′ → Sound s σ′
-  step-sound σ σ′ a c e = goes-sound s σ′ (nextStep s σ) (sound-goes s w t σ c) (ap stateOf e)
+  step-sound σ σ′ a c e = comes-step (sound-goes s w t σ c) e
 
   -- so that every state after n steps is sound
   pub after-sound : (n : ℕ) (σ : State) → after s n ≡ some σ → Sound s σ
@@ -60,7 +61,7 @@ module _ (s : Sheet) (w : WellFormed s) (t : Typed s) where
     where
       go : (x : Option State) → ((τ : State) → x ≡ some τ → Sound s τ) → stepFrom s x ≡ some σ → Sound s σ
       go none earlier q = clash (cc)
-      go (some τ) earlier q = goes-sound s σ (nextStep s τ) (sound-goes s w t τ (earlier τ refl)) q
+      go (some τ) earlier q = let x = stateOf-step (nextStep s τ) σ q in step-sound τ σ (x .0) (earlier τ refl) (x .1)
 
 -- an accepted text's sheet is well formed and well typed
 pub accepted-sheet : (text : List ℕ) (s : Sheet) → meaning text ≡ readable s → verdict text ≡ Accepted → WellFormed s × Typed s
@@ -79,13 +80,7 @@ pub never-lacking : (text : List ℕ) (s : Sheet) → meaning text ≡ readable 
     → (n : ℕ) (σ : State) → after s n ≡ some σ → nextStep s σ ≡ lacking → ⊥
 never-lacking text s e v n σ p q =
     let a = accepted-sheet text s e v in
-    go (nextStep s σ) (sound-goes s (a .0) (a .1) σ (after-sound s (a .0) (a .1) n σ p)) q
-  where
-    go : (x : Next) → Goes s x → x ≡ lacking → ⊥
-    go (finished v) ends q = clash (cc)
-    go (step b τ) (moves d) q = clash (cc)
-    go storeFull store q = clash (cc)
-    go stackFull stack q = clash (cc)
+    comes-lack (sound-goes s (a .0) (a .1) σ (after-sound s (a .0) (a .1) n σ p)) q
 
 -- so that a run of an accepted text is spent only when its steps are the budget
 pub spent-steps : (text : List ℕ) (s : Sheet) → meaning text ≡ readable s → verdict text ≡ Accepted

@@ -1,6 +1,6 @@
 -- What every state of an accepted sheet has (document 01, The machine; Fit and typing): objects and slots hold what their rows
 -- say. SoundLaws proves it of every state after n steps. Stands on State and on typed sheets.
-use Prim.Native.Nat.{ℕ, suc, _+_, _≤_, _<_}
+use Prim.Native.Nat.{ℕ, _+_, _≤_, _<_}
 use mathlib.Core.Path.{_≡_}
 use mathlib.Core.List.{List, [], _∷_, _++_}
 use mathlib.Core.Option.{Option, none, some}

@@ -1,8 +1,7 @@
 -- Laws of the forms and bodies that reading gives: they name rows, forms, kept values and slots that are there. Assumes nothing.
-use Prim.Native.Nat.{ℕ, zero, suc, _+_, _≤_, _<_}
+use Prim.Native.Nat.{ℕ, suc, _+_, _≤_, _<_}
 use native.Mathlib.Omega.{arith}
 use mathlib.Core.Path.{_≡_, refl, sym, ap, _∙_, subst}
-use mathlib.Core.Bool.{Bool, true, false}
 use mathlib.Core.List.{List, [], _∷_, _++_, append-nil}
 use mathlib.Core.Logic.{_⊎_, inl, inr}
 use lib.Dec.{T, leb, leb→le, ltb→lt}
@@ -18,10 +17,10 @@ use Rattle.sheet_rules.specs.declared.Member.the-variants.{Method, Field
 use Rattle.sheet_rules.specs.declared.Key.{Key}
 use Rattle.sheet_rules.specs.Limits.{keepLimit, bodyLimit, instructionLimit}
 use Rattle.sheet_rules.specs.Lines.{Line}
-use Rattle.sheet_rules.specs.Sheet.{Row, Instr, Part, init, body, Form, noMember, rowAt, sizeOfParts, sizeOfForms}
+use Rattle.sheet_rules.specs.Sheet.{Row, Instr, Part, Form, noMember, rowAt, sizeOfParts, sizeOfForms}
 use Rattle.sheet_rules.specs.Reader.{Reader, nth, within, existingLine, one, many}
-use Rattle.sheet_rules.specs.FormLines.{FormHeading, formLine, bodyLine, instrOf, namesExist, instrLine, readInstrs, readPart, readForm}
-use Rattle.sheet_rules.specs.WellFormed.{Scoped, end, next, WellFormedBody, PartOf, field, method, WellFormedForm}
+use Rattle.sheet_rules.specs.FormLines.{FormHeading, formLine, bodyLine, namesExist, instrLine, readInstrs, readPart, readForm}
+use Rattle.sheet_rules.specs.WellFormed.{Scoped, end, next, PartOf, field, method, WellFormedForm}
 use Rattle.sheet_rules.proofs.ReaderLaws.{Judges, its-good, Gives, its-got, judges-demand, gives-one, gives-then, gives-map, gives-many}
 
 -- a number that counts something there

@@ -1,10 +1,10 @@
 -- Laws of the sheets that reading gives: a text has at most one meaning, and a readable sheet is well formed. Assumes nothing.
-use Prim.Native.Nat.{ℕ, zero, suc, _+_, _≤_, _<_}
+use Prim.Native.Nat.{ℕ, _≤_}
 use native.Mathlib.Omega.{arith}
-use mathlib.Core.Path.{_≡_, refl, sym, subst}
+use mathlib.Core.Path.{_≡_, sym, subst}
 use mathlib.Core.Bool.{Bool, true, false, cond}
-use mathlib.Core.List.{List, [], _∷_}
-use lib.Dec.{T, leb, leb→le}
+use mathlib.Core.List.{List}
+use lib.Dec.{leb, leb→le}
 use lib.ListN.{length}
 use Rattle.lists.specs.In.{In}
 use Rattle.lists.proofs.Tests.{and-left, and-right, clash}
@@ -16,7 +16,7 @@ use Rattle.sheet_rules.specs.Lines.{Line, linesOf}
 use Rattle.sheet_rules.specs.Sheet.{Row, Form, Instr, Sheet, sizeOfForms}
 use Rattle.sheet_rules.specs.Reader.{Read, got, refused, nth, countLine}
 use Rattle.sheet_rules.specs.FormLines.{bodyLine}
-use Rattle.sheet_rules.specs.Reading.{readEnd, readSheet, Meaning, readable, unreadable, conclude, meaning}
+use Rattle.sheet_rules.specs.Reading.{readEnd, readSheet, readable, unreadable, conclude, meaning}
 use Rattle.sheet_rules.specs.WellFormed.{Scoped, WellFormedForm, WellFormed}
 use Rattle.sheet_rules.proofs.ReaderLaws.{Judges, its-good, Gives, its-got, its-refused, gives-any, judges-demand, gives-one, gives-then}
 use Rattle.sheet_rules.proofs.RowLinesLaws.{WellFormedRows, readRows-wellFormed}

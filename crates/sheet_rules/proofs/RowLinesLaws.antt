@@ -1,5 +1,5 @@
 -- Laws of the type rows that reading gives: each mentions lower ones, and its names ascend. Assumes nothing.
-use Prim.Native.Nat.{ℕ, zero, suc, _+_, _≤_, _<_}
+use Prim.Native.Nat.{ℕ, suc, _+_, _≤_}
 use native.Mathlib.Omega.{arith}
 use native.Mathlib.Decide.{decLe}
 use mathlib.Core.Path.{_≡_, refl, sym, subst}
@@ -7,9 +7,9 @@ use mathlib.Core.Bool.{Bool, true, false, cond}
 use mathlib.Core.List.{List, [], _∷_, _++_}
 use mathlib.Core.Logic.{_⊎_, inl, inr}
 use lib.Dec.{T, eqb, leb, leb→le, ltb→lt}
-use lib.ListN.{length, getD, length-append, List·getD-append, List·getD-eq-default}
+use lib.ListN.{length, length-append, List·getD-append, List·getD-eq-default}
 use lib.Seq.{getD-at}
-use Rattle.lists.specs.In.{In, here, there}
+use Rattle.lists.specs.In.{In}
 use Rattle.lists.proofs.InLaws.{in-nil, in-snoc}
 use Rattle.lists.proofs.Tests.{and-right}
 use Rattle.sheet_rules.specs.declared.Member.{Member}

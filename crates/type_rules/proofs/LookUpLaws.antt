@@ -1,12 +1,12 @@
 -- Look-ups in rows whose names ascend, and through fit: what fits a row with a method has that method. Assumes nothing.
-use Prim.Native.Nat.{ℕ, zero, suc, _≤_, _<_}
+use Prim.Native.Nat.{ℕ, suc, _≤_}
 use native.Mathlib.Omega.{arith}
 use mathlib.Core.Path.{_≡_, refl, sym, ap, _∙_, subst}
 use mathlib.Core.Bool.{Bool, true, false, cond, _&&_}
 use mathlib.Core.List.{List, [], _∷_}
-use mathlib.Core.Option.{Option, none, some}
+use mathlib.Core.Option.{some}
 use lib.Dec.{T, eqb, eqb→eq}
-use borrow.Author.Tests.{eqb-true, eqb-false, eq-eqb, ne-eqb}
+use borrow.Author.Tests.{eqb-true, eq-eqb, ne-eqb}
 use Rattle.lists.specs.In.{In, here, there}
 use Rattle.lists.proofs.Tests.{and-left, and-right, clash}
 use Rattle.sheet_rules.specs.declared.Kind.{Kind}
@@ -14,10 +14,10 @@ use Rattle.sheet_rules.specs.declared.Kind.the-variants.{Pure, Resource}
 use Rattle.sheet_rules.specs.declared.Member.{Member}
 use Rattle.sheet_rules.specs.declared.Member.the-variants.{Method, Field}
 use Rattle.sheet_rules.specs.Answers.{isYes}
-use Rattle.sheet_rules.specs.Sheet.{Row, Sheet, rowAt}
+use Rattle.sheet_rules.specs.Sheet.{Sheet, rowAt}
 use Rattle.sheet_rules.specs.RowLines.{nameOf}
-use Rattle.sheet_rules.specs.WellFormed.{LowerRows, NamesAscend, end, above, WellFormed}
-use Rattle.type_rules.specs.Fit.{kindFits, matches, rowAnswer, fitAnswer, fits}
+use Rattle.sheet_rules.specs.WellFormed.{NamesAscend, above, WellFormed}
+use Rattle.type_rules.specs.Fit.{kindFits, matches, rowAnswer, fits}
 use Rattle.type_rules.specs.Typing.{Signature, methodIn, membersAt, isPure}
 use Rattle.type_rules.proofs.FitLaws.{hasMatch-at, row-kind, row-member, fit-rule}
 

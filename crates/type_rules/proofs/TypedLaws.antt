@@ -1,6 +1,6 @@
 -- A well-typed sheet is accepted: each line's rule holds, so no line is at fault. With TypingLaws, the verdict accepts exactly the
 -- well-typed sheets. Assumes nothing.
-use Prim.Native.Nat.{ℕ, zero, suc}
+use Prim.Native.Nat.{ℕ, suc}
 use mathlib.Core.Path.{_≡_, refl, sym, ap, _∙_, subst}
 use mathlib.Core.Bool.{Bool, true, false, not, _&&_}
 use mathlib.Core.List.{List, [], _∷_, _++_}
@@ -19,8 +19,8 @@ use Rattle.sheet_rules.specs.declared.Verdict.the-variants.{Accepted}
 use Rattle.sheet_rules.specs.Sheet.{Row, Instr, Part, Form, Sheet, rowAt, formAt}
 use Rattle.sheet_rules.specs.WellFormed.{WellFormed}
 use Rattle.type_rules.specs.Fit.{fits}
-use Rattle.type_rules.specs.Typing.{methodIn, membersAt, Own, ownField, resultOf, rowOr0, slotRow, mainRows, Fault, unless, firstOf, allFit, callFault, getFault, putFault, instrFault, resultFault, instrFaults, partFaults, partsFaults, isPure, hasField, keepFault, keepFaults, formFaults, formsFaults, lineFaults, firstFault, firstFormLine, typing}
-use Rattle.type_rules.specs.Typed.{SlotFits, InstrTyped, typed-new, typed-call, typed-get, typed-put, typed-copy, ResultFits, undeclared, declared, lastRow, CodeTyped, end, next, PartTyped, typed-init, typed-body, FormTyped, Typed}
+use Rattle.type_rules.specs.Typing.{Own, resultOf, rowOr0, slotRow, mainRows, Fault, unless, firstOf, allFit, callFault, getFault, putFault, instrFault, resultFault, instrFaults, partFaults, partsFaults, isPure, hasField, keepFaults, formFaults, formsFaults, lineFaults, firstFault, firstFormLine, typing}
+use Rattle.type_rules.specs.Typed.{SlotFits, InstrTyped, typed-new, typed-call, typed-get, typed-put, typed-copy, ResultFits, undeclared, declared, CodeTyped, end, next, PartTyped, typed-init, typed-body, FormTyped, Typed}
 use Rattle.type_rules.proofs.TypingLaws.{Faultless, lastRow-snoc, accepted-typed}
 
 -- LINES
