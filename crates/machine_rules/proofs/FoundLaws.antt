@@ -39,7 +39,11 @@ body-found {s} {f} n m (pair {xs = ms} {ys = ps} (typed-body {n = k} {a = a} {r 
         → (methodIn ms n ≡ some m → HasBody s f ms ps n m) → HasBody s f (Method k a r ∷ ms) (body is ∷ ps) n m
     go true q e more =
         let this : record { argument = a; result = r } ≡ m = cc in
-        record { code = is; lookedUp = ap (λ (t : Bool). cond t (some is) (bodyIn ms ps n)) q; typed = subst (λ (x : Signature). CodeTyped s (some (f .row)) (some (x .result)) (bodyRows f (x .argument)) is) this c }
+        record {
+          code = is;
+          lookedUp = ap (λ (t : Bool). cond t (some is) (bodyIn ms ps n)) q;
+          typed = subst (λ (x : Signature). CodeTyped s (some (f .row)) (some (x .result)) (bodyRows f (x .argument)) is) this c;
+        }
     go false q e more =
         let b = more e in
         record { code = b .code; lookedUp = ap (λ (t : Bool). cond t (some is) (bodyIn ms ps n)) q ∙ b .lookedUp; typed = b .typed }

@@ -2,10 +2,11 @@
 use Prim.Native.Nat.{ℕ, suc, _+_, _≤_, _<_}
 use native.Mathlib.Omega.{arith}
 use mathlib.Core.Path.{_≡_, refl, sym, ap, _∙_, subst}
+use mathlib.Core.Bool.{Bool, true, false, cond, _&&_, _||_}
 use mathlib.Core.List.{List, [], _∷_, _++_, append-nil}
 use mathlib.Core.Logic.{_⊎_, inl, inr}
-use lib.Dec.{T, leb, leb→le, ltb→lt}
-use lib.ListN.{length, getD, length-append}
+use lib.Dec.{T, eqb, leb, leb→le, ltb→lt}
+use lib.ListN.{length, getD, length-append, length-drop}
 use lib.Seq.{getD-at, append-snoc}
 use Rattle.lists.specs.In.{In}
 use Rattle.lists.specs.Pairwise.{Pairwise, none}
@@ -16,11 +17,12 @@ use Rattle.sheet_rules.specs.declared.Member.{Member}
 use Rattle.sheet_rules.specs.declared.Member.the-variants.{Method, Field}
 use Rattle.sheet_rules.specs.declared.Key.{Key}
 use Rattle.sheet_rules.specs.Limits.{keepLimit, bodyLimit, instructionLimit}
+use Rattle.sheet_rules.specs.Keys.{codeOf, countOf, hasKey, hasInstructionKey}
 use Rattle.sheet_rules.specs.Lines.{Line}
 use Rattle.sheet_rules.specs.Sheet.{Row, Instr, Part, Form, noMember, rowAt, sizeOfParts, sizeOfForms}
 use Rattle.sheet_rules.specs.Reader.{Reader, nth, within, existingLine, one, many}
-use Rattle.sheet_rules.specs.FormLines.{FormHeading, formLine, bodyLine, namesExist, instrLine, readInstrs, readPart, readForm}
-use Rattle.sheet_rules.specs.WellFormed.{Scoped, end, next, PartOf, field, method, WellFormedForm}
+use Rattle.sheet_rules.specs.FormLines.{FormHeading, formLine, bodyLine, instrOf, instrLine, readInstrs, readPart, readForm}
+use Rattle.sheet_rules.specs.WellFormed.{keptSlots, WellFormedInstr, Scoped, end, next, PartOf, field, method, WellFormedForm}
 use Rattle.sheet_rules.proofs.ReaderLaws.{Judges, its-good, Gives, its-got, judges-demand, gives-one, gives-then, gives-map, gives-many}
 
 -- a number that counts something there
@@ -51,22 +53,59 @@ bodyLine-room wanted used k ns =
       whole = leb→le (used + nth ns 0) instructionLimit (and-right (within 1 bodyLimit (nth ns 0)) (leb (used + nth ns 0) instructionLimit) t);
     })))
 
-scoped-snoc : {forms filled : ℕ} (is : List Instr) (j : Instr) → Scoped forms filled is → T (namesExist forms (filled + length is) j)
+scoped-snoc : {forms filled : ℕ} (is : List Instr) (j : Instr) → Scoped forms filled is → WellFormedInstr forms (filled + length is) j
     → Scoped forms filled (is ++ (j ∷ []))
 scoped-snoc {forms} {filled} [] j r t =
     let e : filled + 0 ≡ filled = omega arith in
-    next (subst (λ (m : ℕ). T (namesExist forms m j)) e t) end
+    next (subst (λ (m : ℕ). WellFormedInstr forms m j) e t) end
 scoped-snoc {forms} {filled} (i ∷ is) j (next u r) t =
     let e : filled + suc (length is) ≡ suc filled + length is = omega arith in
-    next u (scoped-snoc is j r (subst (λ (m : ℕ). T (namesExist forms m j)) e t))
+    next u (scoped-snoc is j r (subst (λ (m : ℕ). WellFormedInstr forms m j) e t))
 
-instrLine-exists : (forms filled : ℕ) (k : Key) (ns : List ℕ) → Judges (λ i. T (namesExist forms filled i)) (instrLine forms filled k ns)
+-- an instruction line has at most the numbers of a `new` with 8 kept values
+numbers-few : (k : Key) (ns : List ℕ) → T (hasInstructionKey k ns) → length ns ≤ suc keepLimit
+numbers-few k ns t =
+    either (isKey Key.New || isKey Key.Call || isKey Key.Get || isKey Key.Put) (isKey Key.Copy)
+    (either (isKey Key.New || isKey Key.Call || isKey Key.Get) (isKey Key.Put)
+    (either (isKey Key.New || isKey Key.Call) (isKey Key.Get)
+    (either (isKey Key.New) (isKey Key.Call) (most Key.New (omega arith)) (most Key.Call (omega arith)))
+    (most Key.Get (omega arith)))
+    (most Key.Put (omega arith)))
+    (most Key.Copy (omega arith)) t
+  where
+    isKey : Key → Bool
+    isKey wanted = hasKey wanted k ns
+
+    either : (a b : Bool) → (T a → length ns ≤ suc keepLimit) → (T b → length ns ≤ suc keepLimit) → T (a || b) → length ns ≤ suc keepLimit
+    either true b f g u = f tt
+    either false b f g u = g u
+
+    most : (wanted : Key) → (countOf wanted) .most ≤ suc keepLimit → T (isKey wanted) → length ns ≤ suc keepLimit
+    most wanted l u =
+        let m = leb→le (length ns) ((countOf wanted) .most)
+        (and-right (eqb (codeOf k) (codeOf wanted) && leb ((countOf wanted) .fewest) (length ns)) (leb (length ns) ((countOf wanted) .most)) u) in
+        omega arith
+
+instrOf-few : (k : Key) (ns : List ℕ) → length ns ≤ suc keepLimit → keptSlots (instrOf k ns) ≤ keepLimit
+unfolding instrOf
+instrOf-few k ns h =
+    choice (eqb (codeOf k) (codeOf Key.New)) _ _ (rw length-drop (omega arith))
+    (choice (eqb (codeOf k) (codeOf Key.Call)) _ _ (omega arith)
+    (choice (eqb (codeOf k) (codeOf Key.Get)) _ _ (omega arith)
+    (choice (eqb (codeOf k) (codeOf Key.Put)) _ _ (omega arith) (omega arith))))
+  where
+    choice : (b : Bool) (i j : Instr) → keptSlots i ≤ keepLimit → keptSlots j ≤ keepLimit → keptSlots (cond b i j) ≤ keepLimit
+    choice true i j p q = p
+    choice false i j p q = q
+
+instrLine-wellFormed : (forms filled : ℕ) (k : Key) (ns : List ℕ) → Judges (WellFormedInstr forms filled) (instrLine forms filled k ns)
 unfolding instrLine
-instrLine-exists forms filled k ns =
-    judges-demand P _ _ _ (λ _. judges-demand P _ _ _ (λ _. judges-demand P _ _ _ (λ t. its-good t)))
+instrLine-wellFormed forms filled k ns =
+    judges-demand P _ _ _ (λ key. judges-demand P _ _ _ (λ name. judges-demand P _ _ _ (λ t.
+    its-good (record { exist = t; name = name; few = instrOf-few k ns (numbers-few k ns key) }))))
   where
     P : Instr → Type 0
-    P i = T (namesExist forms filled i)
+    P = WellFormedInstr forms filled
 
 -- reading i instructions gives i, each of which names what is there
 pub readInstrs-scoped : (forms filled i : ℕ) (ls : List Line) (n : ℕ)
@@ -77,7 +116,8 @@ readInstrs-scoped forms filled i ls n =
     (gives-many P item
     (λ k before p ls n. gives-map
     (λ j t. (scoped-snoc before j (p .0) t, rw length-append (omega (arith, p .1)))) (item before ls n)
-    (gives-one (λ j. T (namesExist forms (filled + length before) j)) (instrLine forms (filled + length before)) (instrLine-exists forms (filled + length before)) ls n))
+    (gives-one (WellFormedInstr forms (filled + length before)) (instrLine forms (filled + length before))
+    (instrLine-wellFormed forms (filled + length before)) ls n))
     i [] (end, omega arith) ls n)
   where
     item : List Instr → Reader Instr
@@ -116,7 +156,9 @@ parts-keep forms keeps members k before c p o = go (c .rest) (c .split) (c .left
     go : (rest : List Member) → c .done ++ rest ≡ members → length rest ≡ suc k → PartsSoFar forms keeps members k (before ++ (p ∷ []))
     go [] e l = absurd (omega arith)
     go (m ∷ rest) e l =
-        let at : getD members (length before) noMember ≡ m = ap (λ ms. getD ms (length before) noMember) (sym e) ∙ getD-at (c .done) m rest noMember (length before) (pairwise-length (c .parts)) in
+        let at : getD members (length before) noMember ≡ m =
+        ap (λ ms. getD ms (length before) noMember) (sym e)
+        ∙ getD-at (c .done) m rest noMember (length before) (pairwise-length (c .parts)) in
         record {
           done = c .done ++ (m ∷ []);
           rest = rest;

@@ -15,7 +15,7 @@ use Rattle.lists.proofs.Tests.{and-right}
 use Rattle.sheet_rules.specs.declared.Member.{Member}
 use Rattle.sheet_rules.specs.declared.Member.the-variants.{Method, Field}
 use Rattle.sheet_rules.specs.declared.Key.{Key}
-use Rattle.sheet_rules.specs.Limits.{memberLimit}
+use Rattle.sheet_rules.specs.Limits.{memberLimit, nameLimit}
 use Rattle.sheet_rules.specs.Keys.{codeOf}
 use Rattle.sheet_rules.specs.Lines.{Line}
 use Rattle.sheet_rules.specs.Sheet.{Row, noRow, rowAt}
@@ -52,21 +52,30 @@ names-add (x ∷ xs) y r t = names-snoc 0 x xs y r t
 record SoFar (i count k : ℕ) (xs : List Member) : Type 0 where
   lower : Mentions i xs
   names : NamesAscend 0 xs
+  low : (x : Member) → In x xs → nameOf x ≤ nameLimit
   counted : length xs + k ≡ count
 
 memberLine-keeps : (earlier : List Row) (h : Heading) (j : ℕ) (before : List Member) → SoFar (length earlier) (h .count) (suc j) before
     → (k : Key) (ns : List ℕ) → Judges (λ x. SoFar (length earlier) (h .count) j (before ++ (x ∷ []))) (memberLine earlier h before k ns)
 unfolding memberLine
 memberLine-keeps earlier h j before p k ns =
-    judges-demand P _ _ _ (λ _. judges-demand P _ _ _ (λ _. judges-demand P _ _ _ (λ up. judges-demand P _ _ _ (λ _.
+    judges-demand P _ _ _ (λ _. judges-demand P _ _ _ (λ l. judges-demand P _ _ _ (λ up. judges-demand P _ _ _ (λ _.
     judges-demand P _ _ _ (λ t. its-good (record {
       lower = mentions-snoc (length earlier) before (memberOf k ns) (p .lower) t;
       names = names-add before (memberOf k ns) (p .names) (subst (λ (m : ℕ). T (ascends before m)) (sym (memberOf-name k ns)) up);
+      low = low-snoc (memberOf k ns) (subst (λ (m : ℕ). m ≤ nameLimit) (sym (memberOf-name k ns)) (leb→le (nth ns 0) nameLimit l));
       counted = one-more (memberOf k ns);
     }))))))
   where
     P : Member → Type 0
     P x = SoFar (length earlier) (h .count) j (before ++ (x ∷ []))
+
+    low-snoc : (y : Member) → nameOf y ≤ nameLimit → (x : Member) → In x (before ++ (y ∷ [])) → nameOf x ≤ nameLimit
+    low-snoc y l x i = go (in-snoc before i)
+      where
+        go : In x before ⊎ (x ≡ y) → nameOf x ≤ nameLimit
+        go (inl j) = p .low x j
+        go (inr e) = subst (λ (z : Member). nameOf z ≤ nameLimit) (sym e) l
 
     one-more : (x : Member) → length (before ++ (x ∷ [])) + j ≡ h .count
     one-more x = rw length-append (omega arith)
@@ -88,15 +97,15 @@ readRow-wellFormed earlier ls n =
     gives-then (SoFar (length earlier) (h .count) 0) P _ _
     (gives-many (SoFar (length earlier) (h .count)) (λ before. one (memberLine earlier h before))
     (λ k before p. gives-one (λ x. SoFar (length earlier) (h .count) k (before ++ (x ∷ []))) (memberLine earlier h before) (memberLine-keeps earlier h k before p))
-    (h .count) [] (record { lower = λ x i. absurd (in-nil i); names = end; counted = omega arith }) ls n)
-    (λ ms p ls n. its-got (record { lower = p .lower; names = p .names; few = omega arith })))
+    (h .count) [] (record { lower = λ x i. absurd (in-nil i); names = end; low = λ x i. absurd (in-nil i); counted = omega arith }) ls n)
+    (λ ms p ls n. its-got (record { lower = p .lower; names = p .names; low = p .low; few = omega arith })))
   where
     P : Row → Type 0
     P = WellFormedRow (length earlier)
 
 -- the number that is not there counts as a row without members
 noRow-wellFormed : (a : ℕ) → WellFormedRow a noRow
-noRow-wellFormed a = record { lower = λ x i. absurd (in-nil i); names = end; few = omega arith }
+noRow-wellFormed a = record { lower = λ x i. absurd (in-nil i); names = end; low = λ x i. absurd (in-nil i); few = omega arith }
 
 -- every row of a list is well formed
 abbrev pub WellFormedRows : List Row → Type 0

@@ -8,10 +8,10 @@ use Rattle.lists.specs.In.{In}
 use Rattle.lists.specs.Pairwise.{Pairwise}
 use Rattle.sheet_rules.specs.declared.Member.{Member}
 use Rattle.sheet_rules.specs.declared.Member.the-variants.{Method, Field}
-use Rattle.sheet_rules.specs.Limits.{rowLimit, memberLimit, formLimit, keepLimit, bodyLimit, instructionLimit}
-use Rattle.sheet_rules.specs.Sheet.{Row, Instr, Part, init, body, Form, Sheet, rowAt, sizeOfForms}
+use Rattle.sheet_rules.specs.Limits.{rowLimit, memberLimit, nameLimit, formLimit, keepLimit, bodyLimit, instructionLimit}
+use Rattle.sheet_rules.specs.Sheet.{Row, Instr, new, call, get, put, copy, Part, init, body, Form, Sheet, rowAt, sizeOfForms}
 use Rattle.sheet_rules.specs.RowLines.{nameOf, mentionsBelow}
-use Rattle.sheet_rules.specs.FormLines.{namesExist}
+use Rattle.sheet_rules.specs.FormLines.{nameAllowed, namesExist}
 
 -- every member of a list mentions rows below i alone
 abbrev pub Mentions : ℕ → List Member → Type 0
@@ -26,16 +26,31 @@ pub data NamesAscend : ℕ → List Member → Type 0 where
   end : {i : ℕ} → NamesAscend i []
   above : {i : ℕ} {x : Member} {xs : List Member} → i ≤ nameOf x → NamesAscend (suc (nameOf x)) xs → NamesAscend i (x ∷ xs)
 
--- the row of number i: it mentions lower rows, its names ascend, and its members are within their limit
+-- the row of number i: it mentions lower rows, its names ascend, and names and members are within their limits
 pub record WellFormedRow (i : ℕ) (a : Row) : Type 0 where
   pub lower : Mentions i (a .members)
   pub names : NamesAscend 0 (a .members)
+  pub low : (x : Member) → In x (a .members) → nameOf x ≤ nameLimit
   pub few : length (a .members) ≤ memberLimit
 
--- in some instructions, the first of them with so many slots filled, each names forms of the sheet and slots filled before it
+-- how many slots a `new` names for kept values
+abbrev pub keptSlots : Instr → ℕ
+keptSlots (new f ss) = length ss
+keptSlots (call o n a) = 0
+keptSlots (get n) = 0
+keptSlots (put n v) = 0
+keptSlots (copy v) = 0
+
+-- an instruction, with so many slots filled: it names a form of the sheet and slots filled before it, and is within its limits
+pub record WellFormedInstr (forms filled : ℕ) (i : Instr) : Type 0 where
+  pub exist : T (namesExist forms filled i)
+  pub name : T (nameAllowed i)
+  pub few : keptSlots i ≤ keepLimit
+
+-- some instructions, the first of them with so many slots filled; each fills one more
 pub data Scoped (forms : ℕ) : ℕ → List Instr → Type 0 where
   end : {filled : ℕ} → Scoped forms filled []
-  next : {filled : ℕ} {i : Instr} {is : List Instr} → T (namesExist forms filled i) → Scoped forms (suc filled) is → Scoped forms filled (i ∷ is)
+  next : {filled : ℕ} {i : Instr} {is : List Instr} → WellFormedInstr forms filled i → Scoped forms (suc filled) is → Scoped forms filled (i ∷ is)
 
 -- a body, or main: 1 to 32 instructions, each of which names what is there
 pub record WellFormedBody (forms filled : ℕ) (is : List Instr) : Type 0 where

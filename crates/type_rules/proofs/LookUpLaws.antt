@@ -84,7 +84,8 @@ module _ (s : Sheet) (w : WellFormed s) where
 
   pub fits-method : (a b n : ℕ) (m : Signature) → T (fits (s .rows) a b) → methodIn (membersAt s b) n ≡ some m → Found a n m
   fits-method a b n m t e =
-      let x = hasMatch-at (fits (s .rows)) (membersAt s a) y (row-member (fits (s .rows)) (rowAt (s .rows) a) (rowAt (s .rows) b) (fits-rule a b t) y (methodIn-in (membersAt s b) n m e)) in
+      let i : In y (membersAt s b) = methodIn-in (membersAt s b) n m e in
+      let x = hasMatch-at (fits (s .rows)) (membersAt s a) y (row-member (fits (s .rows)) (rowAt (s .rows) a) (rowAt (s .rows) b) (fits-rule a b t) y i) in
       go (x .0) (x .1) (x .2)
     where
       y : Member

@@ -111,13 +111,13 @@ module _ (s : Sheet) where
       → Faultless (instrFaults (fits (s .rows)) s own result rows (i ∷ is)) → CodeTyped s own result rows (i ∷ is)
   unfolding instrFaults
   code-typed own result rows i [] (Scoped.next t r) h =
-      let p = first-typed own result rows i [] t (h _ (here refl)) in
+      let p = first-typed own result rows i [] (t .exist) (h _ (here refl)) in
       let a : ℕ = slotRow s own rows i in
       let some-slot : 0 < length (rows ++ (a ∷ [])) = rw length-append (omega arith) in
       next (p .0)
       (end some-slot (subst (λ (b : ℕ). ResultFits s b result) (sym (lastRow-snoc rows a)) (result-fits result a (p .1))))
   code-typed own result rows i (j ∷ is) (Scoped.next t r) h =
-      let p = first-typed own result rows i (j ∷ is) t (h _ (here refl)) in
+      let p = first-typed own result rows i (j ∷ is) (t .exist) (h _ (here refl)) in
       let a : ℕ = slotRow s own rows i in
       let e : suc (length rows) ≡ length (rows ++ (a ∷ [])) = rw length-append (omega arith) in
       next (p .0)
@@ -151,8 +151,13 @@ module _ (s : Sheet) where
   keeps-pure : (a : Row) (ks : List ℕ) → Faultless (keepFaults s a ks) → T (isPure (a .kind)) → (k : ℕ) → In k ks → T (isPure ((rowAt (s .rows) k) .kind))
   unfolding keepFaults
   keeps-pure a [] h t k i = elim i [ ]
-  keeps-pure a (x ∷ ks) h t k (here e) = subst (λ (y : ℕ). T (isPure ((rowAt (s .rows) y) .kind))) (sym e) (kept (isPure ((rowAt (s .rows) x) .kind)) (unless-passed (not (isPure (a .kind) && not (isPure ((rowAt (s .rows) x) .kind)))) ImpureForm (h _ (here refl))))
+  keeps-pure a (x ∷ ks) h t k (here e) =
+      subst (λ (y : ℕ). T (isPure ((rowAt (s .rows) y) .kind))) (sym e)
+      (kept pure (unless-passed (not (isPure (a .kind) && not pure)) ImpureForm (h _ (here refl))))
     where
+      pure : Bool
+      pure = isPure ((rowAt (s .rows) x) .kind)
+
       kept : (b : Bool) → T (not (isPure (a .kind) && not b)) → T b
       kept true u = tt
       kept false u = pure-not (isPure (a .kind)) true u t tt
