@@ -51,14 +51,14 @@ module _ (s : Sheet) (w : WellFormed s) (t : Typed s) (σ : State) (c : Sound s 
       receives r e (here k) = old (subst (λ (y : ℕ). Reaches s (σ .objects) (frames σ) y b) (sym e) (by-own r (here k)))
       receives r e (there (here k)) =
           argument e k (is-holds s σ (topHolder s σ) b (c .places)
-          (record { resource = p .resource; reaches = top-slot s w t σ c b (subst (λ (y : ℕ). In y (σ .top .slots)) (sym k) j) }))
+          (record { resource = p .resource; reaches = top-slot s σ b (subst (λ (y : ℕ). In y (σ .top .slots)) (sym k) j) }))
       receives r e (there (there k)) = old (subst (λ (y : ℕ). Reaches s (σ .objects) (frames σ) y b) (sym e) (by-own r (there (in-left (x .kept) (x .fields) k))))
 
       -- a pure receiver, whose frame belongs to the caller's holder
       passes : isResource s (σ .objects) receiver ≡ false → h ≡ topHolder s σ → In b (receiver ∷ value ∷ x .kept) → Gain s σ h b (calls receiver value)
       passes r e (here k) = absurd (subst T r (subst (λ (y : ℕ). T (isResource s (σ .objects) y)) k (p .resource)))
       passes r e (there (here k)) =
-          old (subst (λ (y : ℕ). Reaches s (σ .objects) (frames σ) y b) (sym e) (top-slot s w t σ c b (subst (λ (y : ℕ). In y (σ .top .slots)) (sym k) j)))
+          old (subst (λ (y : ℕ). Reaches s (σ .objects) (frames σ) y b) (sym e) (top-slot s σ b (subst (λ (y : ℕ). In y (σ .top .slots)) (sym k) j)))
       passes r e (there (there k)) = absurd (pure-keeps s w t σ c receiver b is-made r k (p .resource))
 
       first : (r : Bool) → isResource s (σ .objects) receiver ≡ r → cond r receiver (topHolder s σ) ≡ h → In b (receiver ∷ value ∷ x .kept)
@@ -83,5 +83,5 @@ module _ (s : Sheet) (w : WellFormed s) (t : Typed s) (σ : State) (c : Sound s 
 
       go : (b : Bool) (code : Option (List Instr)) → GainsNext s σ (cond b (calledStep σ is receiver value code) stackFull)
       go true none = its-lack tt
-      go true (some code) = its-step (call-gains is code receiver value (top-value s w t σ c o h) (top-value s w t σ c a k))
+      go true (some code) = its-step (call-gains is code receiver value (top-value s σ c o h) (top-value s σ c a k))
       go false code = its-stack tt

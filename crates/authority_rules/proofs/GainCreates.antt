@@ -17,7 +17,6 @@ use Rattle.lists.proofs.PairwiseLaws.{pairwise-length}
 use Rattle.sheet_rules.specs.Limits.{storeLimit}
 use Rattle.sheet_rules.specs.declared.Member.{Member}
 use Rattle.sheet_rules.specs.Sheet.{Instr, Part, Form, Sheet, noForm, formAt}
-use Rattle.sheet_rules.specs.WellFormed.{WellFormed}
 use Rattle.type_rules.specs.Typed.{SlotFits, PartTyped, typed-init, typed-body, Typed}
 use Rattle.machine_rules.specs.State.{Object, State, noObject, objectAt, made, initialFields}
 use Rattle.machine_rules.specs.Step.{creates, step, storeFull, slotValues, withNew, newStep}
@@ -53,7 +52,7 @@ own-made s os all h b l (there i) = go (in-cases ((objectAt os h) .kept) ((objec
     go (inl j) = values-made (all h l .kept) j
     go (inr j) = values-made (all h l .fields) j
 
-module _ (s : Sheet) (w : WellFormed s) (t : Typed s) (σ : State) (c : Sound s σ) where
+module _ (s : Sheet) (t : Typed s) (σ : State) (c : Sound s σ) where
   new-gains : (is : List Instr) (f : ℕ) (ss : List ℕ) → f < length (s .forms) → Pairwise (SlotFits s (c .rows)) ss ((formAt s f) .keeps)
       → Gains s σ (creates (length (σ .objects)) (slotValues (σ .top .slots) ss)) (withNew s σ is f (slotValues (σ .top .slots) ss))
   new-gains is f ss form fit h b p new = go (p .reaches)
@@ -89,7 +88,7 @@ module _ (s : Sheet) (w : WellFormed s) (t : Typed s) (σ : State) (c : Sound s 
           let j : In b (σ .top .slots) = in-values (σ .top .slots) (pairwise-length (c .top .slots)) fit i in
           endowed e (in-contains kept b i)
           (is-holds s σ (topHolder s σ) b (c .places)
-          (record { resource = before b (values-made (c .top .slots) j) (p .resource); reaches = top-slot s w t σ c b j }))
+          (record { resource = before b (values-made (c .top .slots) j) (p .resource); reaches = top-slot s σ b j }))
 
       kept-length : length kept ≡ length ((formAt s f) .keeps)
       kept-length = length-map ss (λ v. getD (σ .top .slots) v 0) ∙ pairwise-length fit

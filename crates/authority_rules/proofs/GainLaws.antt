@@ -24,18 +24,18 @@ use Rattle.authority_rules.proofs.GainReturns.{return-gains-next}
 module _ (s : Sheet) (w : WellFormed s) (t : Typed s) (σ : State) (c : Sound s σ) where
   instr-gains : (i : Instr) (is : List Instr) (a : ℕ) → InstrTyped s (c .own) (c .rows) i a → GainsNext s σ (instrStep s σ i is)
   unfolding instrStep
-  instr-gains (new f ss) is a (typed-new h fit) = new-gains-next s w t σ c is f ss h fit
+  instr-gains (new f ss) is a (typed-new h fit) = new-gains-next s t σ c is f ss h fit
   instr-gains (call o n v) is a (typed-call h e fit) = call-gains-next s w t σ c is o n v h (fit .filled)
-  instr-gains (get n) is a (typed-get e) = get-gains s w t σ c is n a refl (own-found n a (c .top .receives) e)
+  instr-gains (get n) is a (typed-get e) = get-gains s t σ c is n a refl (own-found n a (c .top .receives) e)
   instr-gains (put n v) is a (typed-put e fit) =
-      put-gains s w t σ c is n (getD (σ .top .slots) v 0) a refl (own-found n a (c .top .receives) e)
-      (top-slot s w t σ c (getD (σ .top .slots) v 0) (top-value s w t σ c v (fit .filled)))
+      put-gains s t σ c is n (getD (σ .top .slots) v 0) a refl (own-found n a (c .top .receives) e)
+      (top-slot s σ (getD (σ .top .slots) v 0) (top-value s σ c v (fit .filled)))
   instr-gains (copy v) is a (typed-copy h) =
-      its-step (same-gains s w t σ c is (getD (σ .top .slots) v 0) (top-slot s w t σ c (getD (σ .top .slots) v 0) (top-value s w t σ c v h)))
+      its-step (same-gains s t σ c is (getD (σ .top .slots) v 0) (top-slot s σ (getD (σ .top .slots) v 0) (top-value s σ c v h)))
 
   code-gains : (is : List Instr) → CodeTyped s (c .own) (c .result) (c .rows) is → GainsNext s σ (codeStep s σ is)
   unfolding codeStep
-  code-gains [] (end h r) = return-gains-next s w t σ c (c .result) (σ .below) refl refl (c .below) h
+  code-gains [] (end h r) = return-gains-next s σ c (c .result) (σ .below) refl refl (c .below) h
   code-gains (i ∷ is) (next {a = a} h code) = instr-gains i is a h
 
   next-gains : GainsNext s σ (nextStep s σ)

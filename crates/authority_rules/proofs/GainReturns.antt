@@ -14,9 +14,7 @@ use Rattle.lists.proofs.InLaws.{in-getD}
 use Rattle.lists.proofs.PairwiseLaws.{pairwise-length}
 use Rattle.lists.proofs.Tests.{true→T}
 use Rattle.sheet_rules.specs.Sheet.{Sheet}
-use Rattle.sheet_rules.specs.WellFormed.{WellFormed}
 use Rattle.type_rules.specs.Typing.{Own}
-use Rattle.type_rules.specs.Typed.{Typed}
 use Rattle.machine_rules.specs.State.{Frame, State, lastOf, filled}
 use Rattle.machine_rules.specs.Step.{returns, returnStep}
 use Rattle.machine_rules.specs.Sound.{Receives, object, SoundBelow, waits, Sound}
@@ -29,7 +27,7 @@ use Rattle.authority_rules.proofs.HoldingLaws.{SlotOf, later, Reaches, 
 use Rattle.authority_rules.proofs.StableLaws.{below-frames, slot-filled}
 use Rattle.authority_rules.proofs.GainWorks.{Gains, GainsNext, top-slot}
 
-module _ (s : Sheet) (w : WellFormed s) (t : Typed s) (σ : State) (c : Sound s σ) where
+module _ (s : Sheet) (σ : State) (c : Sound s σ) where
   -- a frame above another belongs to a resource, or to the holder beneath
   receiver-holder : {own : Option ℕ} {a : Own} {r : ℕ} (beneath : ℕ) → Receives s (σ .objects) own a (some r)
       → T (isResource s (σ .objects) (frameHolder s (σ .objects) own beneath)) ⊎ (frameHolder s (σ .objects) own beneath ≡ beneath)
@@ -60,7 +58,7 @@ module _ (s : Sheet) (w : WellFormed s) (t : Typed s) (σ : State) (c : Sound s 
       old q = absurd (new (record { resource = p .resource; reaches = q }))
 
       value : b ≡ v → Reaches s (σ .objects) (frames σ) (topHolder s σ) b
-      value k = top-slot s w t σ c b (subst (λ (y : ℕ). In y (σ .top .slots)) (sym k) v-in)
+      value k = top-slot s σ b (subst (λ (y : ℕ). In y (σ .top .slots)) (sym k) v-in)
 
       passed : h ≡ holderOf s (σ .objects) (σ .below) → b ≡ v → Dec (topHolder s σ ≡ h) → Gain s σ h b returns
       passed m k (yes same) = old (subst (λ (y : ℕ). Reaches s (σ .objects) (frames σ) y b) same (value k))

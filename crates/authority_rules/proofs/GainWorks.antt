@@ -16,7 +16,6 @@ use Rattle.lists.proofs.InLaws.{in-left, in-right, in-cases, in-getD, in-set}
 use Rattle.lists.proofs.PairwiseLaws.{pairwise-length}
 use Rattle.lists.proofs.Tests.{T→true}
 use Rattle.sheet_rules.specs.Sheet.{Instr, Sheet}
-use Rattle.sheet_rules.specs.WellFormed.{WellFormed}
 use Rattle.type_rules.specs.Typed.{Typed}
 use Rattle.machine_rules.specs.State.{Object, State, noObject, objectAt}
 use Rattle.machine_rules.specs.Step.{Action, works, Next, fieldPlace, membersOf, movedOn, gotStep, getStep, withField, hasPutStep, putStep}
@@ -38,13 +37,14 @@ Gains s σ a σ′ = (h b : ℕ) → Holds s σ′ h b → (Holds s σ h b → �
 abbrev pub GainsNext : Sheet → State → Next → Type 0
 GainsNext s σ = Comes (Gains s σ) (Unit {0}) (Unit {0}) (Unit {0})
 
-module _ (s : Sheet) (w : WellFormed s) (t : Typed s) (σ : State) (c : Sound s σ) where
+-- a named slot's value is in the top frame's slots
+pub top-value : (s : Sheet) (σ : State) (c : Sound s σ) (v : ℕ) → v < length (c .rows) → In (getD (σ .top .slots) v 0) (σ .top .slots)
+top-value s σ c v h = in-getD (σ .top .slots) v 0 (omega (arith, pairwise-length (c .top .slots)))
+
+module _ (s : Sheet) (σ : State) where
   -- the top frame's holder reaches its slots
   pub top-slot : (b : ℕ) → In b (σ .top .slots) → Reaches s (σ .objects) (frames σ) (topHolder s σ) b
   top-slot b i = by-slot (this refl i)
-
-  pub top-value : (v : ℕ) → v < length (c .rows) → In (getD (σ .top .slots) v 0) (σ .top .slots)
-  top-value v h = in-getD (σ .top .slots) v 0 (omega (arith, pairwise-length (c .top .slots)))
 
   -- the top frame of a resource belongs to it
   pub top-own : (o : ℕ) → σ .top .own ≡ some o → T (isResource s (σ .objects) o) → topHolder s σ ≡ o
@@ -53,6 +53,7 @@ module _ (s : Sheet) (w : WellFormed s) (t : Typed s) (σ : State) (c : Sound s 
       let beneath : ℕ = holderOf s (σ .objects) (σ .below) in
       ap (λ (x : Option ℕ). frameHolder s (σ .objects) x beneath) e ∙ ap (λ (x : Bool). cond x o beneath) (T→true (isResource s (σ .objects) o) r)
 
+module _ (s : Sheet) (t : Typed s) (σ : State) (c : Sound s σ) where
   -- the top frame gets a value that its holder reaches, and objects get no value of their own that they did not reach: no gain
   works-gains : (os : List Object) → Grows (σ .objects) os → length os ≡ length (σ .objects) → (is : List Instr) (v : ℕ)
       → Reaches s (σ .objects) (frames σ) (topHolder s σ) v
@@ -88,7 +89,7 @@ module _ (s : Sheet) (w : WellFormed s) (t : Typed s) (σ : State) (c : Sound s 
       has = field-found (membersOf s x) n r f
 
       resource : T (isResource s (σ .objects) o)
-      resource = field-resource s w t σ c o n r h f
+      resource = field-resource s t σ c o n r h f
 
       go : (i : Option ℕ) → i ≡ some (has .place) → GainsNext s σ (gotStep σ is o i)
       go none q = its-lack tt
@@ -96,7 +97,7 @@ module _ (s : Sheet) (w : WellFormed s) (t : Typed s) (σ : State) (c : Sound s 
           let j : has .place ≡ i = cc in
           let inside : i < length (x .fields) = omega (arith, pairwise-length (c .store o h .fields), has .inside) in
           its-step (same-gains is (getD (x .fields) i 0)
-          (subst (λ (y : ℕ). Reaches s (σ .objects) (frames σ) y (getD (x .fields) i 0)) (sym (top-own o e resource))
+          (subst (λ (y : ℕ). Reaches s (σ .objects) (frames σ) y (getD (x .fields) i 0)) (sym (top-own s σ o e resource))
           (by-own resource (there (in-right (x .kept) (x .fields) (in-getD (x .fields) i 0 inside))))))
 
   pub put-gains : (is : List Instr) {own : Option ℕ} (n v r : ℕ) → σ .top .own ≡ own → OwnField s (σ .objects) n r own
@@ -107,7 +108,7 @@ module _ (s : Sheet) (w : WellFormed s) (t : Typed s) (σ : State) (c : Sound s 
       x = objectAt (σ .objects) o
 
       resource : T (isResource s (σ .objects) o)
-      resource = field-resource s w t σ c o n r h f
+      resource = field-resource s t σ c o n r h f
 
       -- what the changed object has of its own, it reached before
       changed : (i b : ℕ) → In b (ownValues o (withField x i v)) → Reaches s (σ .objects) (frames σ) o b
@@ -117,7 +118,7 @@ module _ (s : Sheet) (w : WellFormed s) (t : Typed s) (σ : State) (c : Sound s 
           field : In b (x .fields) ⊎ (b ≡ v) → Reaches s (σ .objects) (frames σ) o b
           field (inl k) = by-own resource (there (in-right (x .kept) (x .fields) k))
           field (inr k) =
-              subst (λ (y : ℕ). Reaches s (σ .objects) (frames σ) y b) (top-own o e resource)
+              subst (λ (y : ℕ). Reaches s (σ .objects) (frames σ) y b) (top-own s σ o e resource)
               (subst (λ (y : ℕ). Reaches s (σ .objects) (frames σ) (topHolder s σ) y) (sym k) top)
 
           pick : In b (x .kept) ⊎ In b (set (x .fields) i v) → Reaches s (σ .objects) (frames σ) o b

@@ -19,7 +19,7 @@ use Rattle.sheet_rules.specs.WellFormed.{WellFormed}
 use Rattle.type_rules.specs.Typing.{fieldIn, membersAt, isPure, hasField}
 use Rattle.type_rules.specs.Typed.{Typed}
 use Rattle.type_rules.proofs.LookUpLaws.{fits-pure}
-use Rattle.machine_rules.specs.State.{State, objectAt}
+use Rattle.machine_rules.specs.State.{Object, State, objectAt}
 use Rattle.machine_rules.specs.Sound.{rowOfObject, Is, Sound}
 use Rattle.machine_rules.proofs.NextSound.{form-of}
 use Rattle.authority_rules.specs.Authority.{isResourceKind, isResource}
@@ -42,25 +42,26 @@ not-both : (k : Kind) → T (isPure k) → T (isResourceKind k) → ⊥
 not-both Pure p r = r
 not-both Resource p r = p
 
-module _ (s : Sheet) (w : WellFormed s) (t : Typed s) (σ : State) (c : Sound s σ) where
-  -- the kind of an object's row
-  kindOf : ℕ → Kind
-  kindOf o = (rowOfForm s ((objectAt (σ .objects) o) .form)) .kind
+-- the kind of an object's row
+abbrev kindOf : Sheet → List Object → ℕ → Kind
+kindOf s os o = (rowOfForm s ((objectAt os o) .form)) .kind
 
+module _ (s : Sheet) (t : Typed s) (σ : State) (c : Sound s σ) where
   -- an object whose row has a field is a resource
   pub field-resource : (o n r : ℕ) → o < length (σ .objects) → fieldIn (membersAt s (rowOfObject s (σ .objects) o)) n ≡ some r
       → T (isResource s (σ .objects) o)
-  unfolding isResource kindOf
+  unfolding isResource
   field-resource o n r h e =
-      and-intro (ltb o (length (σ .objects))) (isResourceKind (kindOf o)) (lt→ltb o (length (σ .objects)) h)
-      (not-pure (kindOf o) (λ p. form-of s w t σ c o h .pure p .noField (fieldIn-has (membersAt s (rowOfObject s (σ .objects) o)) n r e)))
+      and-intro (ltb o (length (σ .objects))) (isResourceKind (kindOf s (σ .objects) o)) (lt→ltb o (length (σ .objects)) h)
+      (not-pure (kindOf s (σ .objects) o) (λ p. form-of s t σ c o h .pure p .noField (fieldIn-has (membersAt s (rowOfObject s (σ .objects) o)) n r e)))
 
+module _ (s : Sheet) (w : WellFormed s) (t : Typed s) (σ : State) (c : Sound s σ) where
   -- what fits a pure row is no resource
   pure-is : (b k : ℕ) → Is s (σ .objects) b k → T (isPure ((rowAt (s .rows) k) .kind)) → T (isResource s (σ .objects) b) → ⊥
-  unfolding isResource kindOf
+  unfolding isResource
   pure-is b k i p r =
-      not-both (kindOf b) (fits-pure s w (rowOfObject s (σ .objects) b) k (i .fit) p)
-      (and-right (ltb b (length (σ .objects))) (isResourceKind (kindOf b)) r)
+      not-both (kindOf s (σ .objects) b) (fits-pure s w (rowOfObject s (σ .objects) b) k (i .fit) p)
+      (and-right (ltb b (length (σ .objects))) (isResourceKind (kindOf s (σ .objects) b)) r)
 
   pure-values : {b : ℕ} {xs ks : List ℕ} → Pairwise (Is s (σ .objects)) xs ks → ((k : ℕ) → In k ks → T (isPure ((rowAt (s .rows) k) .kind)))
       → In b xs → T (isResource s (σ .objects) b) → ⊥
@@ -71,8 +72,8 @@ module _ (s : Sheet) (w : WellFormed s) (t : Typed s) (σ : State) (c : Sound s 
   -- a pure object keeps no resource
   pub pure-keeps : (o b : ℕ) → o < length (σ .objects) → isResource s (σ .objects) o ≡ false → In b ((objectAt (σ .objects) o) .kept)
       → T (isResource s (σ .objects) b) → ⊥
-  unfolding isResource kindOf
+  unfolding isResource
   pure-keeps o b h e i r =
-      let pure : T (isPure (kindOf o)) = not-resource (kindOf o)
-      (sym (ap (λ (x : Bool). x && isResourceKind (kindOf o)) (lt-ltb o (length (σ .objects)) h)) ∙ e) in
-      pure-values (c .store o h .kept) (form-of s w t σ c o h .pure pure .pureKeeps) i r
+      let pure : T (isPure (kindOf s (σ .objects) o)) = not-resource (kindOf s (σ .objects) o)
+      (sym (ap (λ (x : Bool). x && isResourceKind (kindOf s (σ .objects) o)) (lt-ltb o (length (σ .objects)) h)) ∙ e) in
+      pure-values (c .store o h .kept) (form-of s t σ c o h .pure pure .pureKeeps) i r

@@ -35,13 +35,13 @@ abbrev pub Goes : Sheet → State → List Instr → Next → Type 0
 Goes s σ is =
     Comes (λ a σ′. Sound s σ′) (BeginsWithNew is × (length (σ .objects) ≡ storeLimit)) (BeginsWithCall is × (frameCount σ ≡ stackLimit)) ⊥
 
-module _ (s : Sheet) (w : WellFormed s) (t : Typed s) (σ : State) (c : Sound s σ) where
-  -- the form of an object is well typed
-  pub form-of : (o : ℕ) → o < length (σ .objects) → FormTyped s (formAt s ((objectAt (σ .objects) o) .form))
-  form-of o h =
-      let f : ℕ = (objectAt (σ .objects) o) .form in
-      t .forms (formAt s f) (in-getD (s .forms) f noForm (c .store o h .form))
+-- the form of an object is well typed
+pub form-of : (s : Sheet) → Typed s → (σ : State) → Sound s σ → (o : ℕ) → o < length (σ .objects) → FormTyped s (formAt s ((objectAt (σ .objects) o) .form))
+form-of s t σ c o h =
+    let f : ℕ = (objectAt (σ .objects) o) .form in
+    t .forms (formAt s f) (in-getD (s .forms) f noForm (c .store o h .form))
 
+module _ (s : Sheet) (w : WellFormed s) (t : Typed s) (σ : State) (c : Sound s σ) where
   -- what is left of the top frame's code is typed once a slot of row a is filled, and there is room for that slot and the code's
   record Left (a : ℕ) (is : List Instr) : Type 0 where
     code : CodeTyped s (c .own) (c .result) (c .rows ++ (a ∷ [])) is
@@ -137,11 +137,11 @@ module _ (s : Sheet) (w : WellFormed s) (t : Typed s) (σ : State) (c : Sound s 
       wellFormed : WellFormedForm (s .rows) (length (s .forms)) f
       wellFormed = w .forms f (in-getD (s .forms) ((objectAt (σ .objects) receiver) .form) noForm (there .form))
 
-      found : Found s w (f .row) n m
+      found : Found s (f .row) n m
       found = fits-method s w (f .row) (getD (c .rows) o 0) n m (is-receiver .fit) e
 
       has : HasBody s f (membersAt s (f .row)) (f .parts) n (found .found)
-      has = body-found n (found .found) (form-of receiver (is-receiver .made) .parts) (found .lookedUp)
+      has = body-found n (found .found) (form-of s t σ c receiver (is-receiver .made) .parts) (found .lookedUp)
 
       is-argument : Is s (σ .objects) argument (found .found .argument)
       is-argument =

@@ -60,6 +60,13 @@ in-methodIn (Method k b c ∷ xs) n a r (above h p) (there j) =
 
 -- THROUGH FIT
 
+-- method n of a row, found in a row that fits the one where it has signature m
+pub record Found (s : Sheet) (a n : ℕ) (m : Signature) : Type 0 where
+  pub found : Signature
+  pub lookedUp : methodIn (membersAt s a) n ≡ some found
+  pub argumentFits : T (fits (s .rows) (m .argument) (found .argument))
+  pub resultFits : T (fits (s .rows) (found .result) (m .result))
+
 module _ (s : Sheet) (w : WellFormed s) where
   fits-rule : (a b : ℕ) → T (fits (s .rows) a b) → T (isYes (rowAnswer (fits (s .rows)) (rowAt (s .rows) a) (rowAt (s .rows) b)))
   unfolding fits
@@ -75,14 +82,7 @@ module _ (s : Sheet) (w : WellFormed s) where
       go Resource Pure p q = p
       go Resource Resource p q = q
 
-  -- method n of a row, found in a row that fits the one where it has signature m
-  pub record Found (a n : ℕ) (m : Signature) : Type 0 where
-    pub found : Signature
-    pub lookedUp : methodIn (membersAt s a) n ≡ some found
-    pub argumentFits : T (fits (s .rows) (m .argument) (found .argument))
-    pub resultFits : T (fits (s .rows) (found .result) (m .result))
-
-  pub fits-method : (a b n : ℕ) (m : Signature) → T (fits (s .rows) a b) → methodIn (membersAt s b) n ≡ some m → Found a n m
+  pub fits-method : (a b n : ℕ) (m : Signature) → T (fits (s .rows) a b) → methodIn (membersAt s b) n ≡ some m → Found s a n m
   fits-method a b n m t e =
       let i : In y (membersAt s b) = methodIn-in (membersAt s b) n m e in
       let x = hasMatch-at (fits (s .rows)) (membersAt s a) y (row-member (fits (s .rows)) (rowAt (s .rows) a) (rowAt (s .rows) b) (fits-rule a b t) y i) in
@@ -91,7 +91,7 @@ module _ (s : Sheet) (w : WellFormed s) where
       y : Member
       y = Method n (m .argument) (m .result)
 
-      go : (x : Member) → In x (membersAt s a) → T (matches (fits (s .rows)) x y) → Found a n m
+      go : (x : Member) → In x (membersAt s a) → T (matches (fits (s .rows)) x y) → Found s a n m
       go (Field k c) i u = absurd u
       go (Method k c d) i u =
           let v : T (eqb k n && fits (s .rows) (m .argument) c) = and-left (eqb k n && fits (s .rows) (m .argument) c) (fits (s .rows) d (m .result)) u in
