@@ -4,7 +4,6 @@ use mathlib.Core.List.{List, [], _∷_, _++_}
 use Prim.Native.Nat.{ℕ, zero, suc, _<_}
 use native.Mathlib.Nat.{le-of-suc-le-suc, not-suc-le-zero}
 use lib.ListN.{length, getD, set}
-use Rattle.lists.specs.In.{In, here, there}
 use Rattle.lists.specs.Pairwise.{Pairwise, none, pair}
 
 module _ {A B : Type 0} where
@@ -26,11 +25,6 @@ module _ {A B : Type 0} where
   pairwise-at [] [] i d e none h = absurd (not-suc-le-zero h)
   pairwise-at (x ∷ xs) (y ∷ ys) zero d e (pair r p) h = r
   pairwise-at (x ∷ xs) (y ∷ ys) (suc i) d e (pair r p) h = pairwise-at xs ys i d e p (le-of-suc-le-suc h)
-
-  -- an element of the first list has a partner in the second
-  pub pairwise-in : {R : A → B → Type 0} {x : A} (xs : List A) (ys : List B) → Pairwise R xs ys → In x xs → (y : B) × In y ys × ((z : A) × (x ≡ z) × R z y)
-  pairwise-in (z ∷ xs) (y ∷ ys) (pair r p) (here e) = (y, here refl, (z, e, r))
-  pairwise-in (z ∷ xs) (y ∷ ys) (pair r p) (there i) = let q = pairwise-in xs ys p i in (q .0, there (q .1), q .2)
 
   -- an element replaced by one that is related too
   pub pairwise-set : {R : A → B → Type 0} (xs : List A) (ys : List B) (i : ℕ) (v : A) (e : B) → Pairwise R xs ys → R v (getD ys i e) → Pairwise R (set xs i v) ys

@@ -1,5 +1,6 @@
 -- What it means that a sheet is well typed (document 01, Fit and typing), as the facts on which its run rests: every slot that
--- is named is filled and fits the place that it goes to. TypingLaws proves it of every accepted sheet. Stands on Typing.
+-- is named is filled and fits the place that it goes to. TypingLaws proves it of every accepted sheet, TypedLaws the converse.
+-- Stands on Typing.
 use Prim.Native.Nat.{ℕ, pred, _<_}
 use mathlib.Core.Path.{_≡_}
 use mathlib.Core.List.{List, [], _∷_, _++_}
