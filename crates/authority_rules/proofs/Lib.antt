@@ -11,3 +11,4 @@ pub mod GainCalls
 pub mod GainReturns
 pub mod GainLaws
 pub mod GuaranteeHolds
+pub mod GainGives
