@@ -17,7 +17,7 @@ use Rattle.sheet_rules.specs.Sheet.{Row, Form, Instr, Sheet, sizeOfForms
 use Rattle.sheet_rules.specs.Reader.{Read, got, refused, nth, countLine}
 use Rattle.sheet_rules.specs.FormLines.{bodyLine}
 use Rattle.sheet_rules.specs.Reading.{readEnd, readSheet, readable, unreadable, conclude, meaning}
-use Rattle.sheet_rules.specs.WellFormed.{Scoped, WellFormedForm, WellFormed}
+use Rattle.sheet_rules.specs.WellFormed.{LowerRows, Scoped, WellFormedForm, WellFormed}
 use Rattle.sheet_rules.proofs.ReaderLaws.{Judges, its-good, Gives, its-got, its-refused, gives-any, judges-demand, gives-one, gives-then}
 use Rattle.sheet_rules.proofs.RowLinesLaws.{WellFormedRows, readRows-wellFormed}
 use Rattle.sheet_rules.proofs.FormLinesLaws.{Room, bodyLine-room, readInstrs-scoped, readForms-wellFormed}
@@ -89,3 +89,7 @@ meaning-has P h text s e = go (leb (length text) textLimit) (readSheet (linesOf 
 -- a sheet that a text means is well formed
 pub readable-wellFormed : (text : List ℕ) (s : Sheet) → meaning text ≡ readable s → WellFormed s
 readable-wellFormed text s e = meaning-has WellFormed readSheet-wellFormed text s e
+
+-- so that its rows mention lower ones
+pub readable-lower : (text : List ℕ) (s : Sheet) → meaning text ≡ readable s → LowerRows (s .rows)
+readable-lower text s e = λ a. readable-wellFormed text s e .rows a .lower
