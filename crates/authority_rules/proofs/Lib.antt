@@ -2,3 +2,13 @@ pub mod Opened
 pub mod CasesHold
 pub mod AuthorityCases
 pub mod AuthorityLaws
+pub mod HoldingLaws
+pub mod StableLaws
+pub mod KindLaws
+pub mod GainWorks
+pub mod GainCreates
+pub mod GainCalls
+pub mod GainReturns
+pub mod GainLaws
+pub mod GuaranteeHolds
+pub mod GainGives

@@ -4,7 +4,7 @@ use mathlib.Core.List.{List, [], _∷_, _++_}
 use mathlib.Core.Logic.{_⊎_, inl, inr}
 use Prim.Native.Nat.{ℕ, zero, suc, _<_}
 use native.Mathlib.Nat.{le-of-suc-le-suc, not-suc-le-zero}
-use lib.ListN.{length, getD}
+use lib.ListN.{length, getD, set}
 use Rattle.lists.specs.In.{In, here, there}
 
 module _ {A : Type 0} where
@@ -42,3 +42,15 @@ module _ {A : Type 0} where
   in-getD [] i d h = absurd (not-suc-le-zero h)
   in-getD (x ∷ xs) zero d h = here refl
   in-getD (x ∷ xs) (suc i) d h = there (in-getD xs i d (le-of-suc-le-suc h))
+
+  -- an element of a list with one replaced is the new one or one of the others
+  pub in-set : {x : A} (xs : List A) (i : ℕ) (v : A) → In x (set xs i v) → In x xs ⊎ (x ≡ v)
+  in-set [] i v j = absurd (in-nil j)
+  in-set (y ∷ xs) zero v (here e) = inr e
+  in-set (y ∷ xs) zero v (there j) = inl (there j)
+  in-set (y ∷ xs) (suc i) v (here e) = inl (here e)
+  in-set {x} (y ∷ xs) (suc i) v (there j) = go (in-set xs i v j)
+    where
+      go : In x xs ⊎ (x ≡ v) → In x (y ∷ xs) ⊎ (x ≡ v)
+      go (inl k) = inl (there k)
+      go (inr e) = inr e

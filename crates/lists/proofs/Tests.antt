@@ -1,4 +1,6 @@
--- Tests joined by `and` and `or`, as facts. Assumes nothing.
+-- Tests joined by `and` and `or`, as facts; and what never holds. Assumes nothing.
+use Prim.Native.Nat.{ℕ}
+use native.Mathlib.Omega.{arith}
 use mathlib.Core.Path.{_≡_, refl, sym, subst}
 use mathlib.Core.Bool.{Bool, true, false, not, _&&_, _||_}
 use mathlib.Core.Logic.{_⊎_, inl, inr}
@@ -42,3 +44,7 @@ T-ext true true f g = refl
 T-ext true false f g = absurd (f tt)
 T-ext false true f g = absurd (g tt)
 T-ext false false f g = refl
+
+-- from two constructors that are equal, which `cc` turns into 0 ≡ 1, anything follows
+pub clash {ℓ} : {A : Type ℓ} → _≡_ {A = ℕ} 0 1 → A
+clash e = absurd (omega arith)

@@ -1,1 +1,2 @@
 pub mod In
+pub mod Pairwise

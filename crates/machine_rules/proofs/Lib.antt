@@ -1,3 +1,10 @@
 pub mod Opened
 pub mod RunCases
 pub mod StepsLaws
+pub mod NextLaws
+pub mod StoreLaws
+pub mod FoundLaws
+pub mod NextSound
+pub mod StoppedLaws
+pub mod SoundLaws
+pub mod BoundsLaws

@@ -1,4 +1,6 @@
 pub mod Opened
 pub mod ReadingCases
 pub mod ReaderLaws
+pub mod RowLinesLaws
+pub mod FormLinesLaws
 pub mod ReadingLaws

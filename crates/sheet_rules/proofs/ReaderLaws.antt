@@ -57,12 +57,12 @@ unfolding andThen
 gives-then P Q (got a ls n) k (its-got p) h = h a p ls n
 gives-then P Q (refused r n) k its-refused h = its-refused
 
--- many: a property of lists that each item keeps
-pub gives-many : {A : Type 0} (P : List A → Type 0) (item : List A → Reader A)
-    → ((before : List A) → P before → (ls : List Line) (n : ℕ) → Gives (λ a. P (before ++ (a ∷ []))) (item before ls n))
-    → (k : ℕ) (before : List A) → P before → (ls : List Line) (n : ℕ) → Gives P (many k item before ls n)
+-- many: a property of the list so far and of how many items are to come, which each item keeps
+pub gives-many : {A : Type 0} (P : ℕ → List A → Type 0) (item : List A → Reader A)
+    → ((k : ℕ) (before : List A) → P (suc k) before → (ls : List Line) (n : ℕ) → Gives (λ a. P k (before ++ (a ∷ []))) (item before ls n))
+    → (k : ℕ) (before : List A) → P k before → (ls : List Line) (n : ℕ) → Gives (P 0) (many k item before ls n)
 unfolding many
 gives-many P item h zero before p ls n = its-got p
 gives-many P item h (suc k) before p ls n =
-    gives-then (λ a. P (before ++ (a ∷ []))) P (item before ls n) (λ a. many k item (before ++ (a ∷ []))) (h before p ls n)
+    gives-then (λ a. P k (before ++ (a ∷ []))) (P 0) (item before ls n) (λ a. many k item (before ++ (a ∷ []))) (h k before p ls n)
     (λ a q. gives-many P item h k (before ++ (a ∷ [])) q)

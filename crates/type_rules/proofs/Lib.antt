@@ -1,3 +1,6 @@
 pub mod Opened
 pub mod TypingCases
 pub mod FitLaws
+pub mod TypingLaws
+pub mod LookUpLaws
+pub mod TypedLaws

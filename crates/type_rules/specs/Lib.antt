@@ -1,3 +1,4 @@
 pub mod Fit
 pub mod FitQuestion
 pub mod Typing
+pub mod Typed

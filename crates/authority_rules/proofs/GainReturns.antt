@@ -1,0 +1,85 @@
+-- What a return may give: a frame that belongs to h gets the value of a frame of another resource. Assumes nothing.
+use Prim.Native.Nat.{ℕ, pred, _<_}
+use native.Mathlib.Omega.{arith}
+use native.Mathlib.Decide.{ℕ-discrete}
+use mathlib.Core.Path.{_≡_, refl, sym, ap, _∙_, subst}
+use mathlib.Core.Bool.{Bool, true, false, cond}
+use mathlib.Core.List.{List, [], _∷_}
+use mathlib.Core.Option.{Option, none, some}
+use mathlib.Core.Logic.{_⊎_, inl, inr}
+use lib.Dec.{T}
+use lib.ListN.{length}
+use Rattle.lists.specs.In.{In}
+use Rattle.lists.proofs.InLaws.{in-getD}
+use Rattle.lists.proofs.PairwiseLaws.{pairwise-length}
+use Rattle.lists.proofs.Tests.{true→T}
+use Rattle.sheet_rules.specs.Sheet.{Sheet}
+use Rattle.type_rules.specs.Typing.{Own}
+use Rattle.machine_rules.specs.State.{Frame, State, lastOf, filled}
+use Rattle.machine_rules.specs.Step.{returns, returnStep}
+use Rattle.machine_rules.specs.Sound.{Receives, object, SoundBelow, waits, Sound}
+use Rattle.machine_rules.proofs.StoreLaws.{grows-refl}
+use Rattle.machine_rules.proofs.FoundLaws.{lastOf-at}
+use Rattle.machine_rules.proofs.NextLaws.{its-step, its-end}
+use Rattle.authority_rules.specs.Authority.{isResource, frames, frameHolder, holderOf, topHolder}
+use Rattle.authority_rules.specs.Gain.{Gain, result}
+use Rattle.authority_rules.proofs.HoldingLaws.{SlotOf, later, Reaches, by-slot, by-own, is-holds}
+use Rattle.authority_rules.proofs.StableLaws.{below-frames, slot-filled}
+use Rattle.authority_rules.proofs.GainWorks.{Gains, GainsNext, top-slot}
+
+module _ (s : Sheet) (σ : State) (c : Sound s σ) where
+  -- a frame above another belongs to a resource, or to the holder beneath
+  receiver-holder : {own : Option ℕ} {a : Own} {r : ℕ} (beneath : ℕ) → Receives s (σ .objects) own a (some r)
+      → T (isResource s (σ .objects) (frameHolder s (σ .objects) own beneath)) ⊎ (frameHolder s (σ .objects) own beneath ≡ beneath)
+  receiver-holder beneath (object {o = o} h e) = go (isResource s (σ .objects) o) refl
+    where
+      go : (b : Bool) → isResource s (σ .objects) o ≡ b → T (isResource s (σ .objects) (cond b o beneath)) ⊎ (cond b o beneath ≡ beneath)
+      go true e = inl (true→T (isResource s (σ .objects) o) e)
+      go false e = inr refl
+
+  top-holder : {r : ℕ} → c .result ≡ some r → T (isResource s (σ .objects) (topHolder s σ)) ⊎ (topHolder s σ ≡ holderOf s (σ .objects) (σ .below))
+  unfolding holderOf
+  top-holder e = receiver-holder (holderOf s (σ .objects) (σ .below)) (subst (Receives s (σ .objects) (σ .top .own) (c .own)) e (c .top .receives))
+
+  return-gains : (r : ℕ) (f : Frame) (fs : List Frame) → c .result ≡ some r → σ .below ≡ f ∷ fs → 0 < length (c .rows)
+      → Gains s σ returns (record { objects = σ .objects; top = filled f (lastOf (σ .top .slots)); below = fs })
+  return-gains r f fs e d l h b p new = go (p .reaches)
+    where
+      v : ℕ
+      v = lastOf (σ .top .slots)
+
+      v-in : In v (σ .top .slots)
+      v-in =
+          subst (λ (y : ℕ). In y (σ .top .slots)) (sym (lastOf-at (σ .top .slots)))
+          (in-getD (σ .top .slots) (pred (length (σ .top .slots))) 0 (omega (arith, pairwise-length (c .top .slots))))
+
+      -- b was reached before
+      old : Reaches s (σ .objects) (frames σ) h b → Gain s σ h b returns
+      old q = absurd (new (record { resource = p .resource; reaches = q }))
+
+      value : b ≡ v → Reaches s (σ .objects) (frames σ) (topHolder s σ) b
+      value k = top-slot s σ b (subst (λ (y : ℕ). In y (σ .top .slots)) (sym k) v-in)
+
+      passed : h ≡ holderOf s (σ .objects) (σ .below) → b ≡ v → Dec (topHolder s σ ≡ h) → Gain s σ h b returns
+      passed m k (yes same) = old (subst (λ (y : ℕ). Reaches s (σ .objects) (frames σ) y b) same (value k))
+      passed m k (no other) = pick (top-holder e)
+        where
+          pick : T (isResource s (σ .objects) (topHolder s σ)) ⊎ (topHolder s σ ≡ holderOf s (σ .objects) (σ .below)) → Gain s σ h b returns
+          pick (inl q) = result q other (is-holds s σ (topHolder s σ) b (c .places) (record { resource = p .resource; reaches = value k })) m
+          pick (inr q) = absurd (other (q ∙ sym m))
+
+      go : Reaches s (σ .objects) (filled f v ∷ fs) h b → Gain s σ h b returns
+      go (by-own q i) = old (by-own q i)
+      go (by-slot q) =
+          pick (slot-filled s (σ .objects) (σ .objects) (grows-refl (σ .objects)) f fs (f .code) v
+          (below-frames (subst (SoundBelow s (σ .objects) (c .result)) d (c .below))) q)
+        where
+          pick : SlotOf s (σ .objects) h b (f ∷ fs) ⊎ ((h ≡ holderOf s (σ .objects) (f ∷ fs)) × (b ≡ v)) → Gain s σ h b returns
+          pick (inl k) = old (by-slot (later (subst (SlotOf s (σ .objects) h b) (sym d) k)))
+          pick (inr k) = passed (k .0 ∙ ap (holderOf s (σ .objects)) (sym d)) (k .1) (ℕ-discrete (topHolder s σ) h)
+
+  pub return-gains-next : (result : Option ℕ) (fs : List Frame) → c .result ≡ result → σ .below ≡ fs → SoundBelow s (σ .objects) result fs → 0 < length (c .rows)
+      → GainsNext s σ (returnStep σ fs)
+  unfolding returnStep
+  return-gains-next none [] e d b l = its-end
+  return-gains-next (some r) (f ∷ fs) e d (waits r′ frame code room fit b) l = its-step (return-gains r f fs e d l)

@@ -1,0 +1,24 @@
+-- When a next step is stopped (document 01, The machine): by the code of the top frame and the counts. Stands on State.
+use Prim.Native.Nat.{ℕ}
+use mathlib.Core.Path.{_≡_}
+use mathlib.Core.List.{List, _∷_}
+use lib.ListN.{length}
+use Rattle.sheet_rules.specs.Limits.{storeLimit, stackLimit}
+use Rattle.sheet_rules.specs.Sheet.{Instr, new, call}
+use Rattle.machine_rules.specs.State.{State, frameCount}
+
+-- the next instruction is a `new`
+pub data BeginsWithNew : List Instr → Type 0 where
+  a-new : {f : ℕ} {ss : List ℕ} {is : List Instr} → BeginsWithNew (new f ss ∷ is)
+
+-- the next instruction is a `call`
+pub data BeginsWithCall : List Instr → Type 0 where
+  a-call : {o n a : ℕ} {is : List Instr} → BeginsWithCall (call o n a ∷ is)
+
+-- a `new` with 256 objects
+abbrev pub NoPlace : State → Type 0
+NoPlace σ = BeginsWithNew (σ .top .code) × (length (σ .objects) ≡ storeLimit)
+
+-- a `call` with 64 frames
+abbrev pub NoFrame : State → Type 0
+NoFrame σ = BeginsWithCall (σ .top .code) × (frameCount σ ≡ stackLimit)

@@ -1,0 +1,253 @@
+-- Laws of the forms and bodies that reading gives: they name rows, forms, kept values and slots that are there. Assumes nothing.
+use Prim.Native.Nat.{ℕ, suc, _+_, _≤_, _<_}
+use native.Mathlib.Omega.{arith}
+use mathlib.Core.Path.{_≡_, refl, sym, ap, _∙_, subst}
+use mathlib.Core.Bool.{Bool, true, false, cond, _&&_, _||_}
+use mathlib.Core.List.{List, [], _∷_, _++_, append-nil}
+use mathlib.Core.Logic.{_⊎_, inl, inr}
+use lib.Dec.{T, eqb, leb, leb→le, ltb→lt}
+use lib.ListN.{length, getD, length-append, length-drop}
+use lib.Seq.{getD-at, append-snoc}
+use Rattle.lists.specs.In.{In}
+use Rattle.lists.specs.Pairwise.{Pairwise, none}
+use Rattle.lists.proofs.InLaws.{in-nil, in-snoc}
+use Rattle.lists.proofs.PairwiseLaws.{pairwise-length, pairwise-snoc}
+use Rattle.lists.proofs.Tests.{and-left, and-right}
+use Rattle.sheet_rules.specs.declared.Member.{Member}
+use Rattle.sheet_rules.specs.declared.Member.the-variants.{Method, Field}
+use Rattle.sheet_rules.specs.declared.Key.{Key}
+use Rattle.sheet_rules.specs.Limits.{keepLimit, bodyLimit, instructionLimit}
+use Rattle.sheet_rules.specs.Keys.{codeOf, countOf, hasKey, hasInstructionKey}
+use Rattle.sheet_rules.specs.Lines.{Line}
+use Rattle.sheet_rules.specs.Sheet.{Row, Instr, Part, Form, noMember, rowAt, sizeOfParts, sizeOfForms}
+use Rattle.sheet_rules.specs.Reader.{Reader, nth, within, existingLine, one, many}
+use Rattle.sheet_rules.specs.FormLines.{FormHeading, formLine, bodyLine, instrOf, instrLine, readInstrs, readPart, readForm}
+use Rattle.sheet_rules.specs.WellFormed.{keptSlots, WellFormedInstr, Scoped, end, next, PartOf, field, method, WellFormedForm}
+use Rattle.sheet_rules.proofs.ReaderLaws.{Judges, its-good, Gives, its-got, judges-demand, gives-one, gives-then, gives-map, gives-many}
+
+-- a number that counts something there
+pub existingLine-below : (wanted : Key) (bound : ℕ) (k : Key) (ns : List ℕ) → Judges (λ m. m < bound) (existingLine wanted bound k ns)
+unfolding existingLine
+existingLine-below wanted bound k ns =
+    judges-demand P _ _ _ (λ _. judges-demand P _ _ _ (λ t. its-good (ltb→lt (nth ns 0) bound t)))
+  where
+    P : ℕ → Type 0
+    P m = m < bound
+
+-- BODIES
+
+-- how many instructions follow a `body` or `main` line, after so many of the sheet
+pub record Room (used i : ℕ) : Type 0 where
+  pub some : 1 ≤ i
+  pub few : i ≤ bodyLimit
+  pub whole : used + i ≤ instructionLimit
+
+pub bodyLine-room : (wanted : Key) (used : ℕ) (k : Key) (ns : List ℕ) → Judges (Room used) (bodyLine wanted used k ns)
+unfolding bodyLine
+bodyLine-room wanted used k ns =
+    judges-demand (Room used) _ _ _ (λ _. judges-demand (Room used) _ _ _ (λ t.
+    let w : T (within 1 bodyLimit (nth ns 0)) = and-left (within 1 bodyLimit (nth ns 0)) (leb (used + nth ns 0) instructionLimit) t in
+    its-good (record {
+      some = leb→le 1 (nth ns 0) (and-left (leb 1 (nth ns 0)) (leb (nth ns 0) bodyLimit) w);
+      few = leb→le (nth ns 0) bodyLimit (and-right (leb 1 (nth ns 0)) (leb (nth ns 0) bodyLimit) w);
+      whole = leb→le (used + nth ns 0) instructionLimit (and-right (within 1 bodyLimit (nth ns 0)) (leb (used + nth ns 0) instructionLimit) t);
+    })))
+
+scoped-snoc : {forms filled : ℕ} (is : List Instr) (j : Instr) → Scoped forms filled is → WellFormedInstr forms (filled + length is) j
+    → Scoped forms filled (is ++ (j ∷ []))
+scoped-snoc {forms} {filled} [] j r t =
+    let e : filled + 0 ≡ filled = omega arith in
+    next (subst (λ (m : ℕ). WellFormedInstr forms m j) e t) end
+scoped-snoc {forms} {filled} (i ∷ is) j (next u r) t =
+    let e : filled + suc (length is) ≡ suc filled + length is = omega arith in
+    next u (scoped-snoc is j r (subst (λ (m : ℕ). WellFormedInstr forms m j) e t))
+
+-- an instruction line has at most the numbers of a `new` with 8 kept values
+numbers-few : (k : Key) (ns : List ℕ) → T (hasInstructionKey k ns) → length ns ≤ suc keepLimit
+numbers-few k ns t =
+    either (isKey Key.New || isKey Key.Call || isKey Key.Get || isKey Key.Put) (isKey Key.Copy)
+    (either (isKey Key.New || isKey Key.Call || isKey Key.Get) (isKey Key.Put)
+    (either (isKey Key.New || isKey Key.Call) (isKey Key.Get)
+    (either (isKey Key.New) (isKey Key.Call) (most Key.New (omega arith)) (most Key.Call (omega arith)))
+    (most Key.Get (omega arith)))
+    (most Key.Put (omega arith)))
+    (most Key.Copy (omega arith)) t
+  where
+    isKey : Key → Bool
+    isKey wanted = hasKey wanted k ns
+
+    either : (a b : Bool) → (T a → length ns ≤ suc keepLimit) → (T b → length ns ≤ suc keepLimit) → T (a || b) → length ns ≤ suc keepLimit
+    either true b f g u = f tt
+    either false b f g u = g u
+
+    most : (wanted : Key) → (countOf wanted) .most ≤ suc keepLimit → T (isKey wanted) → length ns ≤ suc keepLimit
+    most wanted l u =
+        let m = leb→le (length ns) ((countOf wanted) .most)
+        (and-right (eqb (codeOf k) (codeOf wanted) && leb ((countOf wanted) .fewest) (length ns)) (leb (length ns) ((countOf wanted) .most)) u) in
+        omega arith
+
+instrOf-few : (k : Key) (ns : List ℕ) → length ns ≤ suc keepLimit → keptSlots (instrOf k ns) ≤ keepLimit
+unfolding instrOf
+instrOf-few k ns h =
+    choice (eqb (codeOf k) (codeOf Key.New)) _ _ (rw length-drop (omega arith))
+    (choice (eqb (codeOf k) (codeOf Key.Call)) _ _ (omega arith)
+    (choice (eqb (codeOf k) (codeOf Key.Get)) _ _ (omega arith)
+    (choice (eqb (codeOf k) (codeOf Key.Put)) _ _ (omega arith) (omega arith))))
+  where
+    choice : (b : Bool) (i j : Instr) → keptSlots i ≤ keepLimit → keptSlots j ≤ keepLimit → keptSlots (cond b i j) ≤ keepLimit
+    choice true i j p q = p
+    choice false i j p q = q
+
+instrLine-wellFormed : (forms filled : ℕ) (k : Key) (ns : List ℕ) → Judges (WellFormedInstr forms filled) (instrLine forms filled k ns)
+unfolding instrLine
+instrLine-wellFormed forms filled k ns =
+    judges-demand P _ _ _ (λ key. judges-demand P _ _ _ (λ name. judges-demand P _ _ _ (λ t.
+    its-good (record { exist = t; name = name; few = instrOf-few k ns (numbers-few k ns key) }))))
+  where
+    P : Instr → Type 0
+    P = WellFormedInstr forms filled
+
+-- reading i instructions gives i, each of which names what is there
+pub readInstrs-scoped : (forms filled i : ℕ) (ls : List Line) (n : ℕ)
+    → Gives (λ is. Scoped forms filled is × (length is ≡ i)) (readInstrs forms filled i ls n)
+unfolding readInstrs
+readInstrs-scoped forms filled i ls n =
+    gives-map (λ is p. (p .0, omega (arith, p .1))) (many i item [] ls n)
+    (gives-many P item
+    (λ k before p ls n. gives-map
+    (λ j t. (scoped-snoc before j (p .0) t, rw length-append (omega (arith, p .1)))) (item before ls n)
+    (gives-one (WellFormedInstr forms (filled + length before)) (instrLine forms (filled + length before))
+    (instrLine-wellFormed forms (filled + length before)) ls n))
+    i [] (end, omega arith) ls n)
+  where
+    item : List Instr → Reader Instr
+    item before = one (instrLine forms (filled + length before))
+
+    P : ℕ → List Instr → Type 0
+    P k is = Scoped forms filled is × (length is + k ≡ i)
+
+-- PARTS
+
+readPart-of : (forms keeps used : ℕ) (m : Member) (ls : List Line) (n : ℕ) → Gives (PartOf forms keeps m) (readPart forms keeps used m ls n)
+unfolding readPart
+readPart-of forms keeps used (Field m r) ls n =
+    gives-then (λ k. k < keeps) (PartOf forms keeps (Field m r)) _ _
+    (gives-one (λ k. k < keeps) (existingLine Key.Init keeps) (existingLine-below Key.Init keeps) ls n)
+    (λ k h ls n. its-got (field h))
+readPart-of forms keeps used (Method m a r) ls n =
+    gives-then (Room used) (PartOf forms keeps (Method m a r)) _ _
+    (gives-one (Room used) (bodyLine Key.Body used) (bodyLine-room Key.Body used) ls n) (λ i room ls n.
+    gives-then (λ is. Scoped forms (suc (suc keeps)) is × (length is ≡ i)) (PartOf forms keeps (Method m a r)) _ _
+    (readInstrs-scoped forms (suc (suc keeps)) i ls n) (λ is p ls n.
+    its-got (method (record { scoped = p .0; some = omega (arith, p .1); few = omega (arith, p .1) }))))
+
+-- the parts so far of a form, with k to come
+record PartsSoFar (forms keeps : ℕ) (members : List Member) (k : ℕ) (ps : List Part) : Type 0 where
+  done : List Member
+  rest : List Member
+  split : done ++ rest ≡ members
+  left : length rest ≡ k
+  parts : Pairwise (PartOf forms keeps) done ps
+
+parts-keep : (forms keeps : ℕ) (members : List Member) (k : ℕ) (before : List Part) → PartsSoFar forms keeps members (suc k) before
+    → (p : Part) → PartOf forms keeps (getD members (length before) noMember) p → PartsSoFar forms keeps members k (before ++ (p ∷ []))
+parts-keep forms keeps members k before c p o = go (c .rest) (c .split) (c .left)
+  where
+    go : (rest : List Member) → c .done ++ rest ≡ members → length rest ≡ suc k → PartsSoFar forms keeps members k (before ++ (p ∷ []))
+    go [] e l = absurd (omega arith)
+    go (m ∷ rest) e l =
+        let at : getD members (length before) noMember ≡ m =
+        ap (λ ms. getD ms (length before) noMember) (sym e)
+        ∙ getD-at (c .done) m rest noMember (length before) (pairwise-length (c .parts)) in
+        record {
+          done = c .done ++ (m ∷ []);
+          rest = rest;
+          split = append-snoc (c .done) m rest ∙ e;
+          left = omega arith;
+          parts = pairwise-snoc (c .parts) (subst (λ (x : Member). PartOf forms keeps x p) at o);
+        }
+
+parts-all : (forms keeps : ℕ) (members : List Member) (ps : List Part) → PartsSoFar forms keeps members 0 ps → Pairwise (PartOf forms keeps) members ps
+parts-all forms keeps members ps c = go (c .rest) (c .split) (c .left)
+  where
+    go : (rest : List Member) → c .done ++ rest ≡ members → length rest ≡ 0 → Pairwise (PartOf forms keeps) members ps
+    go [] e l = subst (λ ms. Pairwise (PartOf forms keeps) ms ps) (sym (append-nil (c .done)) ∙ e) (c .parts)
+    go (m ∷ rest) e l = absurd (omega arith)
+
+readParts-of : (forms keeps : ℕ) (used : List Part → ℕ) (members : List Member) (ls : List Line) (n : ℕ)
+    → Gives (Pairwise (PartOf forms keeps) members)
+    (many (length members) (λ before. readPart forms keeps (used before) (getD members (length before) noMember)) [] ls n)
+readParts-of forms keeps used members ls n =
+    gives-map (parts-all forms keeps members) _
+    (gives-many (PartsSoFar forms keeps members) (λ before. readPart forms keeps (used before) (getD members (length before) noMember))
+    (λ k before c ls n. gives-map (parts-keep forms keeps members k before c) _
+    (readPart-of forms keeps (used before) (getD members (length before) noMember) ls n))
+    (length members) [] (record { done = []; rest = members; split = refl; left = refl; parts = none }) ls n)
+
+-- FORMS
+
+-- the kept rows so far, with k to come of a count in all
+record KeepsSoFar (rows count k : ℕ) (keeps : List ℕ) : Type 0 where
+  there : (a : ℕ) → In a keeps → a < rows
+  counted : length keeps + k ≡ count
+
+keeps-keep : (rows count k : ℕ) (before : List ℕ) → KeepsSoFar rows count (suc k) before → (b : ℕ) → b < rows → KeepsSoFar rows count k (before ++ (b ∷ []))
+keeps-keep rows count k before c b h = record { there = each; counted = rw length-append (omega arith) }
+  where
+    each : (a : ℕ) → In a (before ++ (b ∷ [])) → a < rows
+    each a i = go (in-snoc before i)
+      where
+        go : In a before ⊎ (a ≡ b) → a < rows
+        go (inl j) = c .there a j
+        go (inr e) = omega arith
+
+record HeadingOk (rows : ℕ) (h : FormHeading) : Type 0 where
+  row : h .row < rows
+  few : h .count ≤ keepLimit
+
+formLine-ok : (rows : ℕ) (k : Key) (ns : List ℕ) → Judges (HeadingOk rows) (formLine rows k ns)
+unfolding formLine
+formLine-ok rows k ns =
+    judges-demand (HeadingOk rows) _ _ _ (λ _. judges-demand (HeadingOk rows) _ _ _ (λ few. judges-demand (HeadingOk rows) _ _ _ (λ t.
+    its-good (record { row = ltb→lt (nth ns 0) rows t; few = leb→le (nth ns 1) keepLimit few }))))
+
+pub readForm-wellFormed : (rows : List Row) (forms : ℕ) (earlier : List Form) (ls : List Line) (n : ℕ)
+    → Gives (WellFormedForm rows forms) (readForm rows forms earlier ls n)
+unfolding readForm
+readForm-wellFormed rows forms earlier ls n =
+    gives-then (HeadingOk (length rows)) P _ _
+    (gives-one (HeadingOk (length rows)) (formLine (length rows)) (formLine-ok (length rows)) ls n) (λ h ok ls n.
+    gives-then (KeepsSoFar (length rows) (h .count) 0) P _ _
+    (gives-many (KeepsSoFar (length rows) (h .count)) (λ before. one (existingLine Key.Keep (length rows)))
+    (λ k before c ls n. gives-map (keeps-keep (length rows) (h .count) k before c) _
+    (gives-one (λ b. b < length rows) (existingLine Key.Keep (length rows)) (existingLine-below Key.Keep (length rows)) ls n))
+    (h .count) [] (record { there = λ a i. absurd (in-nil i); counted = omega arith }) ls n) (λ keeps c ls n.
+    gives-then (Pairwise (PartOf forms (length keeps)) ((rowAt rows (h .row)) .members)) P _ _
+    (readParts-of forms (length keeps) (λ before. sizeOfForms earlier + sizeOfParts before) ((rowAt rows (h .row)) .members) ls n)
+    (λ parts p ls n. its-got (record { row = ok .row; keeps = c .there; few = omega (arith, ok .few, c .counted); parts = p }))))
+  where
+    P : Form → Type 0
+    P = WellFormedForm rows forms
+
+-- reading f forms gives f, all well formed
+pub readForms-wellFormed : (rows : List Row) (f : ℕ) (ls : List Line) (n : ℕ)
+    → Gives (λ forms. ((g : Form) → In g forms → WellFormedForm rows f g) × (length forms ≡ f)) (many f (readForm rows f) [] ls n)
+readForms-wellFormed rows f ls n =
+    gives-map (λ forms p. (p .0, omega (arith, p .1))) (many f (readForm rows f) [] ls n)
+    (gives-many P (readForm rows f)
+    (λ k before p ls n. gives-map
+    (λ g w. (forms-snoc before (p .0) g w, rw length-append (omega (arith, p .1)))) (readForm rows f before ls n) (readForm-wellFormed rows f before ls n))
+    f [] ((λ g i. absurd (in-nil i)), omega arith) ls n)
+  where
+    All : List Form → Type 0
+    All forms = (g : Form) → In g forms → WellFormedForm rows f g
+
+    P : ℕ → List Form → Type 0
+    P k forms = All forms × (length forms + k ≡ f)
+
+    forms-snoc : (forms : List Form) → All forms → (h : Form) → WellFormedForm rows f h → All (forms ++ (h ∷ []))
+    forms-snoc forms all h w g i = go (in-snoc forms i)
+      where
+        go : In g forms ⊎ (g ≡ h) → WellFormedForm rows f g
+        go (inl j) = all g j
+        go (inr e) = subst (WellFormedForm rows f) (sym e) w

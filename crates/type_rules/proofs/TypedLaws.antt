@@ -1,0 +1,152 @@
+-- A well-typed sheet is accepted: each line's rule holds, so no line is at fault. With TypingLaws, the verdict accepts exactly the
+-- well-typed sheets. Assumes nothing.
+use Prim.Native.Nat.{ℕ, suc}
+use mathlib.Core.Path.{_≡_, refl, sym, ap, _∙_, subst}
+use mathlib.Core.Bool.{Bool, true, false, not, _&&_}
+use mathlib.Core.List.{List, [], _∷_, _++_}
+use mathlib.Core.Option.{Option, none, some}
+use mathlib.Core.Logic.{_⊎_, inl, inr, _↔_}
+use lib.Dec.{T}
+use lib.ListN.{getD}
+use Rattle.lists.specs.In.{In, here, there}
+use Rattle.lists.specs.Pairwise.{Pairwise, pair}
+use Rattle.lists.proofs.InLaws.{in-nil, in-cases}
+use Rattle.lists.proofs.Tests.{and-intro, T→true}
+use Rattle.sheet_rules.specs.declared.Member.{Member}
+use Rattle.sheet_rules.specs.declared.Reason.{Reason}
+use Rattle.sheet_rules.specs.declared.Reason.the-variants.{ImpureForm, Misfit}
+use Rattle.sheet_rules.specs.declared.Verdict.the-variants.{Accepted}
+use Rattle.sheet_rules.specs.Sheet.{Row, Instr, Part, Form, Sheet, rowAt, formAt}
+use Rattle.sheet_rules.specs.WellFormed.{WellFormed}
+use Rattle.type_rules.specs.Fit.{fits}
+use Rattle.type_rules.specs.Typing.{Own, resultOf, rowOr0, slotRow, mainRows, Fault, unless, firstOf, allFit, callFault, getFault, putFault, instrFault, resultFault, instrFaults, partFaults, partsFaults, isPure, hasField, keepFaults, formFaults, formsFaults, lineFaults, firstFault, firstFormLine, typing}
+use Rattle.type_rules.specs.Typed.{SlotFits, InstrTyped, typed-new, typed-call, typed-get, typed-put, typed-copy, ResultFits, undeclared, declared, CodeTyped, end, next, PartTyped, typed-init, typed-body, FormTyped, Typed}
+use Rattle.type_rules.proofs.TypingLaws.{Faultless, lastRow-snoc, accepted-typed}
+
+-- LINES
+
+faultless-cons : {g : Fault} {gs : List Fault} → g ≡ none → Faultless gs → Faultless (g ∷ gs)
+faultless-cons e h x (here p) = p ∙ e
+faultless-cons e h x (there i) = h x i
+
+faultless-append : (gs ks : List Fault) → Faultless gs → Faultless ks → Faultless (gs ++ ks)
+faultless-append gs ks h k x i = go (in-cases gs ks i)
+  where
+    go : In x gs ⊎ In x ks → x ≡ none
+    go (inl j) = h x j
+    go (inr j) = k x j
+
+firstFault-accepts : (n : ℕ) (gs : List Fault) → Faultless gs → firstFault n gs ≡ Accepted
+unfolding firstFault
+firstFault-accepts n [] h = refl
+firstFault-accepts n (g ∷ gs) h = go g (h g (here refl)) (firstFault-accepts (suc n) gs (λ x i. h x (there i)))
+  where
+    go : (g : Fault) → g ≡ none → firstFault (suc n) gs ≡ Accepted → firstFault n (g ∷ gs) ≡ Accepted
+    go none e r = r
+    go (some r) e q = cc
+
+passed : (b : Bool) (r : Reason) → T b → unless b r ≡ none
+passed b r t = ap (λ (x : Bool). unless x r) (T→true b t)
+
+module _ (s : Sheet) where
+  fit-slots : {rows ss bs : List ℕ} → Pairwise (SlotFits s rows) ss bs → T (allFit (fits (s .rows)) rows ss bs)
+  unfolding allFit
+  fit-slots Pairwise.none = tt
+  fit-slots {rows} (pair {x = v} {y = b} f p) = and-intro (fits (s .rows) (getD rows v 0) b) _ (f .fit) (fit-slots p)
+
+  -- a well-typed instruction has no fault, and its slot has the row that the rule gives
+  instr-faultless : {own : Own} {rows : List ℕ} {i : Instr} {a : ℕ} → InstrTyped s own rows i a
+      → (instrFault (fits (s .rows)) s own rows i ≡ none) × (slotRow s own rows i ≡ a)
+  instr-faultless {rows = rows} (typed-new {f = f} {ss = ss} h p) = (passed (allFit (fits (s .rows)) rows ss ((formAt s f) .keeps)) Misfit (fit-slots p), refl)
+  instr-faultless {rows = rows} (typed-call {a = a} {m = m} h e f) = (
+    ap (λ x. callFault (fits (s .rows)) x (getD rows a 0)) e ∙ passed (fits (s .rows) (getD rows a 0) (m .argument)) Misfit (f .fit),
+    ap resultOf e,
+  )
+  instr-faultless (typed-get e) = (ap getFault e, ap rowOr0 e)
+  instr-faultless {rows = rows} (typed-put {v = v} {r = r} e f) = (
+    ap (λ x. putFault (fits (s .rows)) x (getD rows v 0)) e ∙ passed (fits (s .rows) (getD rows v 0) r) Misfit (f .fit),
+    ap rowOr0 e,
+  )
+  instr-faultless (typed-copy h) = (refl, refl)
+
+  result-faultless : (result : Option ℕ) (a : ℕ) → ResultFits s a result → resultFault (fits (s .rows)) result a [] ≡ none
+  result-faultless none a undeclared = refl
+  result-faultless (some r) a (declared f) = passed (fits (s .rows) a r) Misfit f
+
+  later-faultless : (result : Option ℕ) (a : ℕ) (i : Instr) (is : List Instr) → resultFault (fits (s .rows)) result a (i ∷ is) ≡ none
+  later-faultless none a i is = refl
+  later-faultless (some r) a i is = refl
+
+  -- the result is judged on the last line alone
+  last-faultless : {own : Own} {result : Option ℕ} (rows : List ℕ) (a : ℕ) (is : List Instr) → CodeTyped s own result (rows ++ (a ∷ [])) is
+      → resultFault (fits (s .rows)) result a is ≡ none
+  last-faultless {result = result} rows a [] (end h r) =
+      result-faultless result a (subst (λ (x : ℕ). ResultFits s x result) (lastRow-snoc s rows a) r)
+  last-faultless {result = result} rows a (i ∷ is) c = later-faultless result a i is
+
+  code-faultless : {own : Own} {result : Option ℕ} {rows : List ℕ} {is : List Instr} → CodeTyped s own result rows is
+      → Faultless (instrFaults (fits (s .rows)) s own result rows is)
+  unfolding instrFaults
+  code-faultless (end h r) = λ x i. absurd (in-nil i)
+  code-faultless {own} {result} {rows} (next {i = i} {is = is} {a = a} h c) =
+      let e = instr-faultless h in
+      faultless-cons
+      (ap (λ (x : Fault). firstOf x (resultFault (fits (s .rows)) result (slotRow s own rows i) is)) (e .0)
+      ∙ ap (λ (x : ℕ). resultFault (fits (s .rows)) result x is) (e .1) ∙ last-faultless rows a is c)
+      (subst (λ (x : ℕ). Faultless (instrFaults (fits (s .rows)) s own result (rows ++ (x ∷ [])) is)) (sym (e .1)) (code-faultless c))
+
+  part-faultless : {f : Form} {m : Member} {p : Part} → PartTyped s f m p → Faultless (partFaults (fits (s .rows)) s f m p)
+  part-faultless {f} (typed-init {r = r} {k = k} h) =
+      faultless-cons (passed (fits (s .rows) (getD (f .keeps) k 0) r) Misfit (h .fit)) (λ x i. absurd (in-nil i))
+  part-faultless (typed-body c) = faultless-cons refl (code-faultless c)
+
+  parts-faultless : {f : Form} {ms : List Member} {ps : List Part} → Pairwise (PartTyped s f) ms ps → Faultless (partsFaults (fits (s .rows)) s f ms ps)
+  unfolding partsFaults
+  parts-faultless Pairwise.none = λ x i. absurd (in-nil i)
+  parts-faultless {f} (pair {x = m} {y = p} {xs = ms} {ys = ps} h r) =
+      faultless-append (partFaults (fits (s .rows)) s f m p) (partsFaults (fits (s .rows)) s f ms ps) (part-faultless h) (parts-faultless r)
+
+  -- a test of the form `not (pure and b)` passes where pure excludes b
+  excludes : (a b : Bool) → (T a → T b → ⊥) → T (not (a && b))
+  excludes true true h = h tt tt
+  excludes true false h = tt
+  excludes false b h = tt
+
+  not-not : (b : Bool) → T b → T (not b) → ⊥
+  not-not true t u = u
+  not-not false t u = t
+
+  keeps-faultless : (a : Row) (ks : List ℕ) → (T (isPure (a .kind)) → (k : ℕ) → In k ks → T (isPure ((rowAt (s .rows) k) .kind)))
+      → Faultless (keepFaults s a ks)
+  unfolding keepFaults
+  keeps-faultless a [] h = λ x i. absurd (in-nil i)
+  keeps-faultless a (k ∷ ks) h =
+      let b : Bool = isPure ((rowAt (s .rows) k) .kind) in
+      faultless-cons
+      (passed (not (isPure (a .kind) && not b)) ImpureForm (excludes (isPure (a .kind)) (not b) (λ p. not-not b (h p k (here refl)))))
+      (keeps-faultless a ks (λ p j i. h p j (there i)))
+
+  form-faultless : (f : Form) → FormTyped s f → Faultless (formFaults (fits (s .rows)) s f)
+  form-faultless f h =
+      let a : Row = rowAt (s .rows) (f .row) in
+      faultless-cons (passed (not (isPure (a .kind) && hasField (a .members))) ImpureForm (excludes (isPure (a .kind)) (hasField (a .members)) (λ p. h .pure p .noField)))
+      (faultless-append (keepFaults s a (f .keeps)) (partsFaults (fits (s .rows)) s f (a .members) (f .parts))
+      (keeps-faultless a (f .keeps) (λ p. h .pure p .pureKeeps)) (parts-faultless (h .parts)))
+
+  forms-faultless : (fs : List Form) → ((f : Form) → In f fs → FormTyped s f) → Faultless (formsFaults (fits (s .rows)) s fs)
+  unfolding formsFaults
+  forms-faultless [] h = λ x i. absurd (in-nil i)
+  forms-faultless (f ∷ fs) h =
+      faultless-append (formFaults (fits (s .rows)) s f) (formsFaults (fits (s .rows)) s fs) (form-faultless f (h f (here refl)))
+      (forms-faultless fs (λ g i. h g (there i)))
+
+  pub typed-accepted : Typed s → typing s ≡ Accepted
+  unfolding typing lineFaults
+  typed-accepted t =
+      firstFault-accepts (firstFormLine s) (lineFaults (fits (s .rows)) s)
+      (faultless-append (formsFaults (fits (s .rows)) s (s .forms)) (none ∷ instrFaults (fits (s .rows)) s none none (mainRows s) (s .main))
+      (forms-faultless (s .forms) (t .forms)) (faultless-cons refl (code-faultless (t .main))))
+
+  -- of the sheets that reading gives, the verdict accepts exactly the well-typed ones
+  pub accepted-exactly : WellFormed s → (typing s ≡ Accepted) ↔ Typed s
+  accepted-exactly w = (accepted-typed s w, typed-accepted)

@@ -1,0 +1,209 @@
+-- An accepted sheet is well typed: no line is at fault, so each line's rule holds. Assumes nothing.
+use Prim.Native.Nat.{ℕ, suc, pred, _<_}
+use native.Mathlib.Omega.{arith}
+use mathlib.Core.Path.{_≡_, refl, sym, subst}
+use mathlib.Core.Bool.{Bool, true, false, not, _&&_}
+use mathlib.Core.List.{List, [], _∷_, _++_}
+use mathlib.Core.Option.{Option, none, some}
+use lib.Dec.{T, T-not, ltb, ltb→lt}
+use lib.ListN.{length, getD, length-append}
+use lib.Seq.{getD-at}
+use Rattle.lists.specs.In.{In, here, there}
+use Rattle.lists.specs.Pairwise.{Pairwise, pair}
+use Rattle.lists.proofs.InLaws.{in-left, in-right}
+use Rattle.lists.proofs.Tests.{and-left, and-right, and-intro, clash}
+use Rattle.sheet_rules.specs.declared.Member.{Member}
+use Rattle.sheet_rules.specs.declared.Member.the-variants.{Method, Field}
+use Rattle.sheet_rules.specs.declared.Reason.{Reason}
+use Rattle.sheet_rules.specs.declared.Reason.the-variants.{ImpureForm, Misfit}
+use Rattle.sheet_rules.specs.declared.Verdict.the-variants.{Accepted}
+use Rattle.sheet_rules.specs.Sheet.{Row, Instr, new, call, get, put, copy, Part, init, body, Form, Sheet, rowAt, formAt}
+use Rattle.sheet_rules.specs.FormLines.{allBelow, namesExist}
+use Rattle.sheet_rules.specs.WellFormed.{Scoped, WellFormedBody, PartOf, WellFormedForm, WellFormed}
+use Rattle.type_rules.specs.Fit.{fits}
+use Rattle.type_rules.specs.Typing.{Signature, methodIn, membersAt, Own, ownField, resultOf, rowOr0, slotRow, bodyRows, mainRows, Fault, unless, firstOf, allFit, callFault, getFault, putFault, instrFault, resultFault, instrFaults, partFaults, partsFaults, isPure, hasField, keepFaults, formFaults, formsFaults, lineFaults, firstFault, firstFormLine, typing}
+use Rattle.type_rules.specs.Typed.{SlotFits, InstrTyped, typed-new, typed-call, typed-get, typed-put, typed-copy, ResultFits, undeclared, declared, lastRow, CodeTyped, end, next, PartTyped, typed-init, typed-body, FormTyped, Typed}
+
+-- lines without a fault
+abbrev pub Faultless : List Fault → Type 0
+Faultless gs = (g : Fault) → In g gs → g ≡ none
+
+firstFault-faultless : (n : ℕ) (gs : List Fault) → firstFault n gs ≡ Accepted → Faultless gs
+unfolding firstFault
+firstFault-faultless n [] e g i = elim i [ ]
+firstFault-faultless n (none ∷ gs) e g (here p) = p
+firstFault-faultless n (none ∷ gs) e g (there i) = firstFault-faultless (suc n) gs e g i
+firstFault-faultless n (some r ∷ gs) e g i = clash (cc)
+
+unless-passed : (b : Bool) (r : Reason) → unless b r ≡ none → T b
+unless-passed true r e = tt
+unless-passed false r e = clash (cc)
+
+firstOf-none : (f g : Fault) → firstOf f g ≡ none → (f ≡ none) × (g ≡ none)
+firstOf-none none g e = (refl, e)
+firstOf-none (some r) g e = clash (cc)
+
+module _ (s : Sheet) where
+  -- INSTRUCTIONS
+
+  fit-passed : (a b : ℕ) → unless (fits (s .rows) a b) Misfit ≡ none → T (fits (s .rows) a b)
+  fit-passed a b e = unless-passed (fits (s .rows) a b) Misfit e
+
+  slots-fit : (rows ss bs : List ℕ) → T (allBelow (length rows) ss) → T (allFit (fits (s .rows)) rows ss bs) → Pairwise (SlotFits s rows) ss bs
+  unfolding allBelow allFit
+  slots-fit rows [] [] t u = Pairwise.none
+  slots-fit rows [] (b ∷ bs) t u = absurd u
+  slots-fit rows (v ∷ ss) [] t u = absurd u
+  slots-fit rows (v ∷ ss) (b ∷ bs) t u =
+      pair
+      (record {
+        filled = ltb→lt v (length rows) (and-left (ltb v (length rows)) (allBelow (length rows) ss) t);
+        fit = and-left (fits (s .rows) (getD rows v 0) b) (allFit (fits (s .rows)) rows ss bs) u;
+      })
+      (slots-fit rows ss bs
+      (and-right (ltb v (length rows)) (allBelow (length rows) ss) t)
+      (and-right (fits (s .rows) (getD rows v 0) b) (allFit (fits (s .rows)) rows ss bs) u))
+
+  instr-typed : (own : Own) (rows : List ℕ) (i : Instr) → T (namesExist (length (s .forms)) (length rows) i)
+      → instrFault (fits (s .rows)) s own rows i ≡ none → InstrTyped s own rows i (slotRow s own rows i)
+  instr-typed own rows (new f ss) t e =
+      typed-new (ltb→lt f (length (s .forms)) (and-left (ltb f (length (s .forms))) (allBelow (length rows) ss) t))
+      (slots-fit rows ss ((formAt s f) .keeps) (and-right (ltb f (length (s .forms))) (allBelow (length rows) ss) t)
+      (unless-passed (allFit (fits (s .rows)) rows ss ((formAt s f) .keeps)) Misfit e))
+  instr-typed own rows (call o n a) t e = go (methodIn (membersAt s (getD rows o 0)) n) refl e
+    where
+      go : (m : Option Signature) → methodIn (membersAt s (getD rows o 0)) n ≡ m → callFault (fits (s .rows)) m (getD rows a 0) ≡ none
+          → InstrTyped s own rows (call o n a) (resultOf m)
+      go none p e = clash (cc)
+      go (some m) p e =
+          typed-call (ltb→lt o (length rows) (and-left (ltb o (length rows)) (ltb a (length rows)) t)) p
+          (record { filled = ltb→lt a (length rows) (and-right (ltb o (length rows)) (ltb a (length rows)) t); fit = fit-passed (getD rows a 0) (m .argument) e })
+  instr-typed own rows (get n) t e = go (ownField s own n) refl e
+    where
+      go : (r : Option ℕ) → ownField s own n ≡ r → getFault r ≡ none → InstrTyped s own rows (get n) (rowOr0 r)
+      go none p e = clash (cc)
+      go (some r) p e = typed-get p
+  instr-typed own rows (put n v) t e = go (ownField s own n) refl e
+    where
+      go : (r : Option ℕ) → ownField s own n ≡ r → putFault (fits (s .rows)) r (getD rows v 0) ≡ none → InstrTyped s own rows (put n v) (rowOr0 r)
+      go none p e = clash (cc)
+      go (some r) p e = typed-put p (record { filled = ltb→lt v (length rows) t; fit = fit-passed (getD rows v 0) r e })
+  instr-typed own rows (copy v) t e = typed-copy (ltb→lt v (length rows) t)
+
+  -- BODIES
+
+  pub lastRow-snoc : (rows : List ℕ) (a : ℕ) → lastRow (rows ++ (a ∷ [])) ≡ a
+  lastRow-snoc rows a = getD-at rows a [] 0 (pred (length (rows ++ (a ∷ [])))) (rw length-append (omega arith))
+
+  result-fits : (result : Option ℕ) (a : ℕ) → resultFault (fits (s .rows)) result a [] ≡ none → ResultFits s a result
+  result-fits none a e = undeclared
+  result-fits (some r) a e = declared (fit-passed a r e)
+
+  -- the first line of some instructions passed, with its result if it is the last
+  first-typed : (own : Own) (result : Option ℕ) (rows : List ℕ) (i : Instr) (is : List Instr) → T (namesExist (length (s .forms)) (length rows) i)
+      → firstOf (instrFault (fits (s .rows)) s own rows i) (resultFault (fits (s .rows)) result (slotRow s own rows i) is) ≡ none
+      → InstrTyped s own rows i (slotRow s own rows i) × (resultFault (fits (s .rows)) result (slotRow s own rows i) is ≡ none)
+  first-typed own result rows i is t e =
+      let p = firstOf-none (instrFault (fits (s .rows)) s own rows i) (resultFault (fits (s .rows)) result (slotRow s own rows i) is) e in
+      (instr-typed own rows i t (p .0), p .1)
+
+  code-typed : (own : Own) (result : Option ℕ) (rows : List ℕ) (i : Instr) (is : List Instr) → Scoped (length (s .forms)) (length rows) (i ∷ is)
+      → Faultless (instrFaults (fits (s .rows)) s own result rows (i ∷ is)) → CodeTyped s own result rows (i ∷ is)
+  unfolding instrFaults
+  code-typed own result rows i [] (Scoped.next t r) h =
+      let p = first-typed own result rows i [] (t .exist) (h _ (here refl)) in
+      let a : ℕ = slotRow s own rows i in
+      let some-slot : 0 < length (rows ++ (a ∷ [])) = rw length-append (omega arith) in
+      next (p .0)
+      (end some-slot (subst (λ (b : ℕ). ResultFits s b result) (sym (lastRow-snoc rows a)) (result-fits result a (p .1))))
+  code-typed own result rows i (j ∷ is) (Scoped.next t r) h =
+      let p = first-typed own result rows i (j ∷ is) (t .exist) (h _ (here refl)) in
+      let a : ℕ = slotRow s own rows i in
+      let e : suc (length rows) ≡ length (rows ++ (a ∷ [])) = rw length-append (omega arith) in
+      next (p .0)
+      (code-typed own result (rows ++ (a ∷ [])) j is (subst (λ (k : ℕ). Scoped (length (s .forms)) k (j ∷ is)) e r) (λ g k. h g (there k)))
+
+  body-typed : (own : Own) (result : Option ℕ) (rows : List ℕ) (is : List Instr) → WellFormedBody (length (s .forms)) (length rows) is
+      → Faultless (instrFaults (fits (s .rows)) s own result rows is) → CodeTyped s own result rows is
+  body-typed own result rows [] w h = absurd (omega (arith, w .some))
+  body-typed own result rows (i ∷ is) w h = code-typed own result rows i is (w .scoped) h
+
+  -- FORMS
+
+  part-typed : (f : Form) (m : Member) (p : Part) → PartOf (length (s .forms)) (length (f .keeps)) m p → Faultless (partFaults (fits (s .rows)) s f m p) → PartTyped s f m p
+  part-typed f (Field n r) (init k) (PartOf.field b) h =
+      typed-init (record { filled = b; fit = fit-passed (getD (f .keeps) k 0) r (h _ (here refl)) })
+  part-typed f (Method n a r) (body is) (PartOf.method w) h =
+      typed-body (body-typed (some (f .row)) (some r) (bodyRows f a) is w (λ g i. h g (there i)))
+
+  parts-typed : (f : Form) (ms : List Member) (ps : List Part) → Pairwise (PartOf (length (s .forms)) (length (f .keeps))) ms ps
+      → Faultless (partsFaults (fits (s .rows)) s f ms ps) → Pairwise (PartTyped s f) ms ps
+  unfolding partsFaults
+  parts-typed f [] [] Pairwise.none h = Pairwise.none
+  parts-typed f (m ∷ ms) (p ∷ ps) (pair o r) h =
+      pair (part-typed f m p o (λ g i. h g (in-left (partFaults (fits (s .rows)) s f m p) (partsFaults (fits (s .rows)) s f ms ps) i)))
+      (parts-typed f ms ps r (λ g i. h g (in-right (partFaults (fits (s .rows)) s f m p) (partsFaults (fits (s .rows)) s f ms ps) i)))
+
+  -- a test of the form `not (pure and b)` that passed: where pure is asked, b fails
+  pure-not : (a b : Bool) → T (not (a && b)) → T a → T b → ⊥
+  pure-not a b t u v = T-not (a && b) t (and-intro a b u v)
+
+  keeps-pure : (a : Row) (ks : List ℕ) → Faultless (keepFaults s a ks) → T (isPure (a .kind)) → (k : ℕ) → In k ks → T (isPure ((rowAt (s .rows) k) .kind))
+  unfolding keepFaults
+  keeps-pure a [] h t k i = elim i [ ]
+  keeps-pure a (x ∷ ks) h t k (here e) =
+      subst (λ (y : ℕ). T (isPure ((rowAt (s .rows) y) .kind))) (sym e)
+      (kept pure (unless-passed (not (isPure (a .kind) && not pure)) ImpureForm (h _ (here refl))))
+    where
+      pure : Bool
+      pure = isPure ((rowAt (s .rows) x) .kind)
+
+      kept : (b : Bool) → T (not (isPure (a .kind) && not b)) → T b
+      kept true u = tt
+      kept false u = pure-not (isPure (a .kind)) true u t tt
+  keeps-pure a (x ∷ ks) h t k (there i) = keeps-pure a ks (λ g j. h g (there j)) t k i
+
+  form-typed : (f : Form) → WellFormedForm (s .rows) (length (s .forms)) f → Faultless (formFaults (fits (s .rows)) s f) → FormTyped s f
+  form-typed f w h =
+      record {
+        pure = λ t. record {
+          noField = pure-not (isPure (a .kind)) (hasField (a .members)) (unless-passed (not (isPure (a .kind) && hasField (a .members))) ImpureForm (h _ (here refl))) t;
+          pureKeeps = keeps-pure a (f .keeps) (λ g i. h g (there (in-left keepLines partLines i))) t;
+        };
+        parts = parts-typed f (a .members) (f .parts) (w .parts) (λ g i. h g (there (in-right keepLines partLines i)));
+      }
+    where
+      a : Row
+      a = rowAt (s .rows) (f .row)
+
+      keepLines : List Fault
+      keepLines = keepFaults s a (f .keeps)
+
+      partLines : List Fault
+      partLines = partsFaults (fits (s .rows)) s f (a .members) (f .parts)
+
+  form-faults : (fs : List Form) → Faultless (formsFaults (fits (s .rows)) s fs) → (f : Form) → In f fs → Faultless (formFaults (fits (s .rows)) s f)
+  unfolding formsFaults
+  form-faults [] h f i x j = elim i [ ]
+  form-faults (g ∷ fs) h f (here e) x i =
+      h x (in-left (formFaults (fits (s .rows)) s g) (formsFaults (fits (s .rows)) s fs) (subst (λ (k : Form). In x (formFaults (fits (s .rows)) s k)) e i))
+  form-faults (g ∷ fs) h f (there j) x i =
+      form-faults fs (λ y k. h y (in-right (formFaults (fits (s .rows)) s g) (formsFaults (fits (s .rows)) s fs) k)) f j x i
+
+  -- a readable sheet that the verdict accepts is well typed
+  pub accepted-typed : WellFormed s → typing s ≡ Accepted → Typed s
+  unfolding typing lineFaults
+  accepted-typed w e =
+      record {
+        forms = λ f i. form-typed f (w .forms f i) (form-faults (s .forms) (λ g j. all g (in-left formLines mainLines j)) f i);
+        main = body-typed none none (mainRows s) (s .main) (w .main) (λ g j. all g (in-right formLines mainLines (there j)));
+      }
+    where
+      formLines : List Fault
+      formLines = formsFaults (fits (s .rows)) s (s .forms)
+
+      mainLines : List Fault
+      mainLines = none ∷ instrFaults (fits (s .rows)) s none none (mainRows s) (s .main)
+
+      all : Faultless (lineFaults (fits (s .rows)) s)
+      all = firstFault-faultless (firstFormLine s) (lineFaults (fits (s .rows)) s) e
