@@ -1,2 +1,3 @@
 pub mod JudgeLaws
 pub mod LineLaws
+pub mod StrictLaws

@@ -1,5 +1,6 @@
 -- What the code's answers tell, in the rules' words. Stands on the rules' judgements.
 use Prim.Native.Nat.{ℕ}
+use mathlib.Core.Path.{_≡_}
 use mathlib.Core.Bool.{Bool, not, _&&_}
 use mathlib.Core.List.{List, []}
 use lib.Dec.{eqb}
@@ -18,6 +19,10 @@ use Rattle.judges.specs.declared.LineJudged.{LineJudged}
 -- a key's code and number count, from the rules' table
 unfoldable pub factsOf : Key → KeyFacts
 factsOf k = record { code = codeOf k; fewest = (countOf k) .fewest; most = (countOf k) .most }
+
+-- a key that a sheet may have
+abbrev pub Known : Key → Type 0
+Known w = codeOf w ≡ 15 → ⊥
 
 -- a line with one number, judged
 abbrev pub numberTold : NumberJudged → Judged ℕ

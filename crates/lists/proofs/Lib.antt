@@ -1,3 +1,4 @@
 pub mod Tests
 pub mod InLaws
 pub mod PairwiseLaws
+pub mod TabLaws

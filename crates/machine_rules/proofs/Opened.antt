@@ -3,8 +3,9 @@
 use Rattle.machine_rules.specs.State.{initialFields, lastOf}
 use Rattle.machine_rules.specs.Step.{bodyIn, fieldPlace, instrStep, returnStep, codeStep, nextStep}
 use Rattle.machine_rules.specs.Steps.{after, runFrom, run, runReply}
+use Rattle.machine_rules.specs.Sound.{fieldRows}
 use Rattle.type_rules.proofs.Opened.{judging}
 
 unfoldable pub running : Unit {0}
-unfolding initialFields lastOf bodyIn fieldPlace instrStep returnStep codeStep nextStep after runFrom run runReply judging
+unfolding initialFields lastOf bodyIn fieldPlace instrStep returnStep codeStep nextStep after runFrom run runReply fieldRows judging
 running = tt

@@ -1,0 +1,96 @@
+-- The sheet that the work buffer holds: a function of its numbers. Stands on Layout and on the rules' sheet.
+use Prim.Native.Nat.{ℕ, zero, suc, _+_}
+use mathlib.Core.Bool.{Bool, true, false, cond}
+use mathlib.Core.List.{List, [], _∷_}
+use lib.Dec.{eqb}
+use lib.ListN.{getD, take, drop}
+use Rattle.lists.specs.Tab.{tab}
+use Rattle.sheet_rules.specs.declared.Member.{Member}
+use Rattle.sheet_rules.specs.declared.Member.the-variants.{Method, Field}
+use Rattle.sheet_rules.specs.Sheet.{Row, Instr, new, call, get, put, copy, Part, init, body, Form, Sheet}
+use Rattle.sheet_rules.specs.Reader.{nth}
+use Rattle.sheet_rules.specs.RowLines.{kindOf}
+use Rattle.table.specs.Layout.{rowCountAt, formCountAt, mainStartAt, mainCountAt, rowAddress, memberAddress, formAddress, keepAddress, partAddress, instrAddress}
+
+-- the number at a place; 0 past the end
+abbrev pub cell : List ℕ → ℕ → ℕ
+cell w i = getD w i 0
+
+-- a member from its four numbers
+abbrev pub memberFrom : ℕ → ℕ → ℕ → ℕ → Member
+memberFrom tag n a b = cond (eqb tag 0) (Method n a b) (Field n a)
+
+-- member j of row i
+unfoldable pub memberIn : List ℕ → ℕ → ℕ → Member
+memberIn w i j =
+    memberFrom (cell w (memberAddress i j)) (cell w (memberAddress i j + 1)) (cell w (memberAddress i j + 2)) (cell w (memberAddress i j + 3))
+
+-- the first n members of row i
+abbrev pub membersIn : List ℕ → ℕ → ℕ → List Member
+membersIn w i n = tab (memberIn w i) n
+
+-- row i
+unfoldable pub rowIn : List ℕ → ℕ → Row
+rowIn w i = record { kind = kindOf (cell w (rowAddress i)); members = membersIn w i (cell w (rowAddress i + 1)) }
+
+-- the first n rows
+abbrev pub rowsIn : List ℕ → ℕ → List Row
+rowsIn w n = tab (rowIn w) n
+
+-- the nine numbers of instruction p
+abbrev pub numbersIn : List ℕ → ℕ → List ℕ
+numbersIn w p = tab (λ k. cell w (instrAddress p + (2 + k))) 9
+
+-- an instruction from its key's code and its numbers
+unfoldable pub instrFrom : ℕ → List ℕ → Instr
+instrFrom code ns =
+    cond (eqb code 10) (new (nth ns 0) (drop 1 ns))
+    (cond (eqb code 11) (call (nth ns 0) (nth ns 1) (nth ns 2))
+    (cond (eqb code 12) (get (nth ns 0))
+    (cond (eqb code 13) (put (nth ns 0) (nth ns 1)) (copy (nth ns 0)))))
+
+-- instruction p of the pool
+unfoldable pub instrIn : List ℕ → ℕ → Instr
+instrIn w p = instrFrom (cell w (instrAddress p)) (take (cell w (instrAddress p + 1)) (numbersIn w p))
+
+-- n instructions from p on
+abbrev pub instrsIn : List ℕ → ℕ → ℕ → List Instr
+instrsIn w p n = tab (λ k. instrIn w (p + k)) n
+
+-- a part from its three numbers
+abbrev pub partFrom : List ℕ → ℕ → ℕ → ℕ → Part
+partFrom w tag a b = cond (eqb tag 0) (init a) (body (instrsIn w a b))
+
+-- part j of form f
+unfoldable pub partIn : List ℕ → ℕ → ℕ → Part
+partIn w f j = partFrom w (cell w (partAddress f j)) (cell w (partAddress f j + 1)) (cell w (partAddress f j + 2))
+
+-- the first n kept rows of form f
+abbrev pub keepsIn : List ℕ → ℕ → ℕ → List ℕ
+keepsIn w f n = tab (λ j. cell w (keepAddress f j)) n
+
+-- the first n parts of form f
+abbrev pub partsIn : List ℕ → ℕ → ℕ → List Part
+partsIn w f n = tab (partIn w f) n
+
+-- form f
+unfoldable pub formIn : List ℕ → ℕ → Form
+formIn w f =
+    record {
+      row = cell w (formAddress f);
+      keeps = keepsIn w f (cell w (formAddress f + 1));
+      parts = partsIn w f (cell w (formAddress f + 2));
+    }
+
+-- the first n forms
+abbrev pub formsIn : List ℕ → ℕ → List Form
+formsIn w n = tab (formIn w) n
+
+-- the sheet
+unfoldable pub sheetIn : List ℕ → Sheet
+sheetIn w =
+    record {
+      rows = rowsIn w (cell w rowCountAt);
+      forms = formsIn w (cell w formCountAt);
+      main = instrsIn w (cell w mainStartAt) (cell w mainCountAt);
+    }

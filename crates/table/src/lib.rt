@@ -1,0 +1,24 @@
+// The table in the work buffer: its layout is in specs/Layout, what it holds in specs/View. All reads and writes of the sheet go
+// through here.
+ghost use mathlib.Core.Path.{_≡_};
+ghost use lib.ListN.{set};
+ghost use Rattle.table.specs.View.{cell as cellOf};
+
+// The number at a place; 0 past the end.
+pub fn cell(work: &[u16], at: usize) -> u16
+    ensures { λ r. ⌜ r ≡ cellOf (now (work .entry)) at ⌝ }
+{
+    if at < work.len() {
+        return work[at];
+    }
+    0
+}
+
+// Sets the number at a place; past the end nothing changes.
+pub fn put(work: &mut [u16], at: usize, v: u16)
+    ensures { λ r. ⌜ now (work .exit) ≡ set (now (work .entry)) at v ⌝ }
+{
+    if at < work.len() {
+        work[at] = v;
+    }
+}
