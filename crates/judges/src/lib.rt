@@ -5,10 +5,12 @@ ghost use Rattle.sheet_rules.specs.Keys.{codeOf, countOf, hasKey, hasInstructio
 ghost use Rattle.sheet_rules.specs.Reader.{countLine, existingLine};
 ghost use mathlib.Core.List.{List};
 ghost use Rattle.sheet_rules.specs.Sheet.{Row as RowRule};
-ghost use Rattle.sheet_rules.specs.RowLines.{rowLine};
+ghost use mathlib.Core.Bool.{_||_};
+ghost use Rattle.sheet_rules.specs.declared.Member.{Member as MemberRule};
+ghost use Rattle.sheet_rules.specs.RowLines.{Heading, rowLine, memberLine};
 ghost use Rattle.sheet_rules.specs.FormLines.{formLine, bodyLine, instrLine, instrOf};
 ghost use Rattle.lexer.specs.Scan.{listOf};
-ghost use Rattle.judges.specs.Told.{factsOf, numberTold, rowTold, formTold};
+ghost use Rattle.judges.specs.Told.{factsOf, numberTold, rowTold, formTold, lineTold, Lowest, memberRest, MemberShaped};
 use lexer::Numbers;
 use sheet_rules::Key;
 use sheet_rules::Reason;
@@ -267,4 +269,41 @@ pub fn form_line(rows: u16, key: Key, numbers: Numbers) -> PairJudged
         };
     }
     PairJudged::Pair { first, second }
+}
+
+// The line has the key of a member, with its numbers.
+fn is_member(key: Key, numbers: Numbers) -> bool
+    requires { ⌜ numbers .count ≤ 9 ⌝ }
+    ensures { λ r. ⌜ r ≡ (hasKey Key.Def key (listOf numbers) || hasKey Key.Var key (listOf numbers)) ⌝ }
+{
+    if has_key(Key::Def, key, numbers) {
+        return true;
+    }
+    has_key(Key::Var, key, numbers)
+}
+
+// A member line, where the least name that ascends is given: but for the tests of the whole row.
+pub fn member_line(lowest: u16, key: Key, numbers: Numbers) -> LineJudged
+    requires { ⌜ numbers .count ≤ 9 ⌝ }
+    ensures { λ r. ⌜ ((earlier : List RowRule) (h : Heading) (before : List MemberRule) → Lowest before lowest → lineTold r (memberRest earlier h before key (listOf numbers)) ≡ memberLine earlier h before key (listOf numbers)) ⌝ }
+    ensures named { λ r. ⌜ (r ≡ LineJudged.Good → MemberShaped key numbers) ⌝ }
+{
+    let shaped = is_member(key, numbers);
+    if !shaped {
+        return LineJudged::Refused {
+            reason: Reason::Malformed,
+        };
+    }
+    let name = numbers.n0;
+    if 63 < name {
+        return LineJudged::Refused {
+            reason: Reason::OutOfLimit,
+        };
+    }
+    if name < lowest {
+        return LineJudged::Refused {
+            reason: Reason::NotAscending,
+        };
+    }
+    LineJudged::Good
 }
