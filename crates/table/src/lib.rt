@@ -4,6 +4,8 @@ ghost use mathlib.Core.Path.{_≡_};
 ghost use lib.ListN.{set};
 ghost use Rattle.table.specs.View.{cell as cellOf};
 
+pub mod rows;
+
 // The number at a place; 0 past the end.
 pub fn cell(work: &[u16], at: usize) -> u16
     ensures { λ r. ⌜ r ≡ cellOf (now (work .entry)) at ⌝ }

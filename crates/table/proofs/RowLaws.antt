@@ -1,0 +1,60 @@
+-- What the numbers of a row's block tell, at the places where the code reads them: a law for each exit. Assumes nothing.
+use Prim.Native.Nat.{ℕ, zero, suc, _+_, _*_, _<_, min}
+use native.Mathlib.Omega.{arith}
+use mathlib.Core.Path.{_≡_, refl, sym, ap, _∙_}
+use mathlib.Core.Bool.{Bool, cond}
+use mathlib.Core.List.{List}
+use lib.Dec.{eqb}
+use borrow.Author.Tests.{eq-eqb, ne-eqb}
+use Rattle.sheet_rules.specs.declared.Kind.{Kind}
+use Rattle.sheet_rules.specs.declared.Kind.the-variants.{Pure, Resource}
+use Rattle.sheet_rules.specs.declared.Member.{Member}
+use Rattle.sheet_rules.specs.declared.Member.the-variants.{Method, Field}
+use Rattle.sheet_rules.specs.RowLines.{kindOf}
+use Rattle.table.specs.Layout.{rowAddress, memberAddress}
+use Rattle.table.specs.View.{cell, memberFrom, memberIn, rowIn}
+
+-- the addresses, without the clamps
+
+pub row-address : (i : ℕ) → i < 64 → 16 + 36 * i ≡ rowAddress i
+row-address i h = omega arith
+
+pub member-address : (i j : ℕ) → i < 64 → j < 8 → 16 + 36 * i + (4 + 4 * j) ≡ memberAddress i j
+member-address i j h k = omega arith
+
+-- row_kind
+
+pub row-pure : (w : List ℕ) (i : ℕ) → i < 64 → cell w (16 + 36 * i) ≡ 0 → Pure ≡ (rowIn w i) .kind
+unfolding rowIn
+row-pure w i h e = sym (ap kindOf (sym (ap (cell w) (row-address i h)) ∙ e))
+
+pub row-resource : (w : List ℕ) (i : ℕ) → i < 64 → (cell w (16 + 36 * i) ≡ 0 → ⊥) → Resource ≡ (rowIn w i) .kind
+unfolding rowIn
+row-resource w i h e = go (cell w (16 + 36 * i)) e ∙ ap (λ (n : ℕ). kindOf (cell w n)) (row-address i h)
+  where
+    go : (n : ℕ) → (n ≡ 0 → ⊥) → Resource ≡ kindOf n
+    go zero d = absurd (d refl)
+    go (suc n) d = refl
+
+-- member
+
+module _ (w : List ℕ) (i j : ℕ) (h : i < 64) (k : j < 8) where
+  pub member-method : cell w (16 + 36 * i + (4 + 4 * j)) ≡ 0
+      → Method (cell w (16 + 36 * i + (4 + 4 * j) + 1)) (cell w (16 + 36 * i + (4 + 4 * j) + 2)) (cell w (16 + 36 * i + (4 + 4 * j) + 3)) ≡ memberIn w i j
+  unfolding memberIn
+  member-method e =
+      sym (ap (λ (b : Bool). cond b (Method (cell w (at + 1)) (cell w (at + 2)) (cell w (at + 3))) (Field (cell w (at + 1)) (cell w (at + 2)))) (eq-eqb (cell w at) 0 e))
+      ∙ ap (λ (n : ℕ). memberFrom (cell w n) (cell w (n + 1)) (cell w (n + 2)) (cell w (n + 3))) (member-address i j h k)
+    where
+      at : ℕ
+      at = 16 + 36 * i + (4 + 4 * j)
+
+  pub member-field : (cell w (16 + 36 * i + (4 + 4 * j)) ≡ 0 → ⊥)
+      → Field (cell w (16 + 36 * i + (4 + 4 * j) + 1)) (cell w (16 + 36 * i + (4 + 4 * j) + 2)) ≡ memberIn w i j
+  unfolding memberIn
+  member-field e =
+      sym (ap (λ (b : Bool). cond b (Method (cell w (at + 1)) (cell w (at + 2)) (cell w (at + 3))) (Field (cell w (at + 1)) (cell w (at + 2)))) (ne-eqb (cell w at) 0 e))
+      ∙ ap (λ (n : ℕ). memberFrom (cell w n) (cell w (n + 1)) (cell w (n + 2)) (cell w (n + 3))) (member-address i j h k)
+    where
+      at : ℕ
+      at = 16 + 36 * i + (4 + 4 * j)

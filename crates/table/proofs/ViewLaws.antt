@@ -1,0 +1,147 @@
+-- Laws of Only and of the view: what depends on which numbers of the buffer. Assumes nothing.
+use Prim.Native.Nat.{ℕ, zero, suc, _+_, _*_, _≤_, _<_, min}
+use native.Mathlib.Omega.{arith}
+use native.Mathlib.Decide.{decLe}
+use mathlib.Core.Path.{_≡_, refl, sym, ap, ap₂, _∙_, subst}
+use mathlib.Core.Bool.{Bool, cond}
+use mathlib.Core.List.{List, [], _∷_}
+use lib.Dec.{eqb}
+use lib.ListN.{length, getD, set, take, length-set}
+use lib.Seq.{getD-set-other}
+use Rattle.lists.specs.Tab.{tab}
+use Rattle.lists.proofs.TabLaws.{tab-ext}
+use Rattle.sheet_rules.specs.declared.Kind.{Kind}
+use Rattle.sheet_rules.specs.declared.Member.{Member}
+use Rattle.sheet_rules.specs.Sheet.{Row, Instr, Part, init, body, Form, Sheet}
+use Rattle.sheet_rules.specs.RowLines.{kindOf}
+use Rattle.table.specs.Layout.{rowCountAt, formCountAt, mainStartAt, mainCountAt, rowAddress, memberAddress, formAddress, keepAddress, partAddress, instrAddress, tableEnd}
+use Rattle.table.specs.View.{cell, memberFrom, memberIn, membersIn, rowIn, rowsIn, numbersIn, instrFrom, instrIn, instrsIn, partFrom, partIn, keepsIn, partsIn, formIn, formsIn, sheetIn}
+use Rattle.table.specs.Only.{Only}
+
+-- Only: reflexive, composes, widens, and holds of a number that is set
+
+pub only-refl : (lo hi : ℕ) (w : List ℕ) → Only lo hi w w
+only-refl lo hi w = record { size = refl; below = λ i h. refl; above = λ i h. refl }
+
+pub only-trans : {lo hi : ℕ} {w w′ w″ : List ℕ} → Only lo hi w w′ → Only lo hi w′ w″ → Only lo hi w w″
+only-trans p q =
+    record {
+      size = q .size ∙ p .size;
+      below = λ i h. q .below i h ∙ p .below i h;
+      above = λ i h. q .above i h ∙ p .above i h;
+    }
+
+pub only-widen : {lo hi lo′ hi′ : ℕ} {w w′ : List ℕ} → lo′ ≤ lo → hi ≤ hi′ → Only lo hi w w′ → Only lo′ hi′ w w′
+only-widen l h p =
+    record { size = p .size; below = λ i k. p .below i (omega arith); above = λ i k. p .above i (omega arith) }
+
+pub only-set : (lo hi : ℕ) (w : List ℕ) (i v : ℕ) → lo ≤ i → i < hi → Only lo hi w (set w i v)
+only-set lo hi w i v l h =
+    record {
+      size = length-set w i v;
+      below = λ j k. getD-set-other w i j v 0 (omega arith);
+      above = λ j k. getD-set-other w i j v 0 (omega arith);
+    }
+
+-- a row depends on the 36 numbers of its block alone
+
+rowOf : ℕ → List Member → Row
+rowOf k ms = record { kind = kindOf k; members = ms }
+
+-- two buffers have the same numbers in the n places from a place on
+abbrev pub SameFrom : ℕ → ℕ → List ℕ → List ℕ → Type 0
+SameFrom base n w w′ = (i : ℕ) → base ≤ i → i < base + n → cell w′ i ≡ cell w i
+
+pub member-same : (w w′ : List ℕ) (i j : ℕ) → SameFrom (rowAddress i) 36 w w′ → memberIn w′ i j ≡ memberIn w i j
+unfolding memberIn
+member-same w w′ i j h =
+    ap₂ (λ (t n : ℕ). memberFrom t n (cell w′ (memberAddress i j + 2)) (cell w′ (memberAddress i j + 3)))
+    (h (memberAddress i j) (omega arith) (omega arith)) (h (memberAddress i j + 1) (omega arith) (omega arith))
+    ∙ ap₂ (λ (a b : ℕ). memberFrom (cell w (memberAddress i j)) (cell w (memberAddress i j + 1)) a b)
+    (h (memberAddress i j + 2) (omega arith) (omega arith)) (h (memberAddress i j + 3) (omega arith) (omega arith))
+
+pub row-same : (w w′ : List ℕ) (i : ℕ) → SameFrom (rowAddress i) 36 w w′ → rowIn w′ i ≡ rowIn w i
+unfolding rowIn rowOf
+row-same w w′ i h =
+    ap₂ rowOf (h (rowAddress i) (omega arith) (omega arith))
+    (ap (λ (n : ℕ). membersIn w′ i n) (h (rowAddress i + 1) (omega arith) (omega arith))
+    ∙ tab-ext (memberIn w′ i) (memberIn w i) (cell w (rowAddress i + 1)) (λ j k. member-same w w′ i j h))
+
+-- a buffer that is changed in row i's block alone has its other rows as they were
+
+pub row-other : (w w′ : List ℕ) (i j : ℕ) → Only (rowAddress i) (rowAddress i + 36) w w′ → i < 64 → j < 64 → (j ≡ i → ⊥) → rowIn w′ j ≡ rowIn w j
+row-other w w′ i j o p q d = row-same w w′ j each
+  where
+    each : SameFrom (rowAddress j) 36 w w′
+    each k l u = go (decLe (suc j) i)
+      where
+        go : Dec (suc j ≤ i) → cell w′ k ≡ cell w k
+        go (yes r) = o .below k (omega arith)
+        go (no r) = let s : i < j = omega arith in o .above k (omega arith)
+
+-- the sheet depends on the numbers below the table's end alone
+
+-- two buffers have the same numbers below the table's end
+abbrev pub SameTable : List ℕ → List ℕ → Type 0
+SameTable w w′ = (i : ℕ) → i < tableEnd → cell w′ i ≡ cell w i
+
+pub only→same : (lo hi : ℕ) (w w′ : List ℕ) → tableEnd ≤ lo → Only lo hi w w′ → SameTable w w′
+only→same lo hi w w′ l o i h = o .below i (omega arith)
+
+module _ (w w′ : List ℕ) (h : SameTable w w′) where
+  pub rowIn-same : (i : ℕ) → rowIn w′ i ≡ rowIn w i
+  rowIn-same i = row-same w w′ i (λ k l u. h k (omega arith))
+
+  pub rowsIn-same : (n : ℕ) → rowsIn w′ n ≡ rowsIn w n
+  rowsIn-same n = tab-ext (rowIn w′) (rowIn w) n (λ i k. rowIn-same i)
+
+  pub instrIn-same : (p : ℕ) → instrIn w′ p ≡ instrIn w p
+  unfolding instrIn
+  instrIn-same p =
+      ap₂ (λ (c n : ℕ). instrFrom c (take n (numbersIn w′ p))) (h (instrAddress p) (omega arith)) (h (instrAddress p + 1) (omega arith))
+      ∙ ap (λ (ns : List ℕ). instrFrom (cell w (instrAddress p)) (take (cell w (instrAddress p + 1)) ns))
+      (tab-ext (λ k. cell w′ (instrAddress p + (2 + k))) (λ k. cell w (instrAddress p + (2 + k))) 9 (λ k u. h (instrAddress p + (2 + k)) (omega arith)))
+
+  pub instrsIn-same : (p n : ℕ) → instrsIn w′ p n ≡ instrsIn w p n
+  instrsIn-same p n = tab-ext (λ k. instrIn w′ (p + k)) (λ k. instrIn w (p + k)) n (λ k u. instrIn-same (p + k))
+
+  pub partIn-same : (f j : ℕ) → partIn w′ f j ≡ partIn w f j
+  unfolding partIn
+  partIn-same f j =
+      ap₂ (λ (t a : ℕ). partFrom w′ t a (cell w′ (partAddress f j + 2))) (h (partAddress f j) (omega arith)) (h (partAddress f j + 1) (omega arith))
+      ∙ ap (λ (b : ℕ). partFrom w′ (cell w (partAddress f j)) (cell w (partAddress f j + 1)) b) (h (partAddress f j + 2) (omega arith))
+      ∙ ap (λ (is : List Instr). cond (eqb (cell w (partAddress f j)) 0) (init (cell w (partAddress f j + 1))) (body is)) (instrsIn-same (cell w (partAddress f j + 1)) (cell w (partAddress f j + 2)))
+
+  pub formIn-same : (f : ℕ) → formIn w′ f ≡ formIn w f
+  unfolding formIn
+  formIn-same f = λ p. record { row = row p; keeps = keeps p; parts = parts p }
+    where
+      row : cell w′ (formAddress f) ≡ cell w (formAddress f)
+      row = h (formAddress f) (omega arith)
+
+      keeps : keepsIn w′ f (cell w′ (formAddress f + 1)) ≡ keepsIn w f (cell w (formAddress f + 1))
+      keeps =
+          ap (λ (n : ℕ). keepsIn w′ f n) (h (formAddress f + 1) (omega arith))
+          ∙ tab-ext (λ j. cell w′ (keepAddress f j)) (λ j. cell w (keepAddress f j)) (cell w (formAddress f + 1)) (λ j k. h (keepAddress f j) (omega arith))
+
+      parts : partsIn w′ f (cell w′ (formAddress f + 2)) ≡ partsIn w f (cell w (formAddress f + 2))
+      parts =
+          ap (λ (n : ℕ). partsIn w′ f n) (h (formAddress f + 2) (omega arith))
+          ∙ tab-ext (partIn w′ f) (partIn w f) (cell w (formAddress f + 2)) (λ j k. partIn-same f j)
+
+  pub sheetIn-same : sheetIn w′ ≡ sheetIn w
+  unfolding sheetIn
+  sheetIn-same = λ p. record { rows = rows p; forms = forms p; main = main p }
+    where
+      rows : rowsIn w′ (cell w′ rowCountAt) ≡ rowsIn w (cell w rowCountAt)
+      rows = ap (λ (n : ℕ). rowsIn w′ n) (h rowCountAt (omega arith)) ∙ rowsIn-same (cell w rowCountAt)
+
+      forms : formsIn w′ (cell w′ formCountAt) ≡ formsIn w (cell w formCountAt)
+      forms =
+          ap (λ (n : ℕ). formsIn w′ n) (h formCountAt (omega arith))
+          ∙ tab-ext (formIn w′) (formIn w) (cell w formCountAt) (λ f k. formIn-same f)
+
+      main : instrsIn w′ (cell w′ mainStartAt) (cell w′ mainCountAt) ≡ instrsIn w (cell w mainStartAt) (cell w mainCountAt)
+      main =
+          ap₂ (λ (s n : ℕ). instrsIn w′ s n) (h mainStartAt (omega arith)) (h mainCountAt (omega arith))
+          ∙ instrsIn-same (cell w mainStartAt) (cell w mainCountAt)
