@@ -283,7 +283,7 @@ fn is_member(key: Key, numbers: Numbers) -> bool
 }
 
 // A member line, where the least name that ascends is given: but for the tests of the whole row.
-pub fn member_line(lowest: u16, key: Key, numbers: Numbers) -> LineJudged
+pub fn member_line(lowest: u32, key: Key, numbers: Numbers) -> LineJudged
     requires { ⌜ numbers .count ≤ 9 ⌝ }
     ensures { λ r. ⌜ ((earlier : List RowRule) (h : Heading) (before : List MemberRule) → Lowest before lowest → lineTold r (memberRest earlier h before key (listOf numbers)) ≡ memberLine earlier h before key (listOf numbers)) ⌝ }
     ensures named { λ r. ⌜ (r ≡ LineJudged.Good → MemberShaped key numbers) ⌝ }
@@ -300,7 +300,7 @@ pub fn member_line(lowest: u16, key: Key, numbers: Numbers) -> LineJudged
             reason: Reason::OutOfLimit,
         };
     }
-    if name < lowest {
+    if (name as u32) < lowest {
         return LineJudged::Refused {
             reason: Reason::NotAscending,
         };

@@ -20,6 +20,10 @@ returns c = ((λ earlier h before low. member-malformed (c .before .before .args
 returns-2 : tie.Need-returns-2
 returns-2 c = ((λ earlier h before low. member-name (c .before .before .before .args .key) (c .before .before .before .args .numbers) (c .before .before .before .pre) earlier h before (sym (c .before .before .is-member .ensures) ∙ not-false (c .before .before .is-member .result) (c .before .if1 .left)) (c .if2 .taken)), λ e. refused-not _ e)
 
+-- src/lib.rt:303:9
+cast-if3 : tie.Need-cast-if3
+cast-if3 c = search needs
+
 -- src/lib.rt:304:9
 returns-3 : tie.Need-returns-3
 returns-3 c = ((λ earlier h before low. member-order (c .before .before .before .before .args .key) (c .before .before .before .before .args .numbers) (c .before .before .before .before .pre) earlier h before (c .before .before .before .before .args .lowest) low (sym (c .before .before .before .is-member .ensures) ∙ not-false (c .before .before .before .is-member .result) (c .before .before .if1 .left)) (c .before .if2 .left) (c .if3 .taken)), λ e. refused-not _ e)
@@ -29,4 +33,5 @@ returns-4 : tie.Need-returns-4
 returns-4 c = ((λ earlier h before low. member-good (c .before .before .before .before .args .key) (c .before .before .before .before .args .numbers) (c .before .before .before .before .pre) earlier h before (c .before .before .before .before .args .lowest) low (sym (c .before .before .before .is-member .ensures) ∙ not-false (c .before .before .before .is-member .result) (c .before .before .if1 .left)) (c .before .if2 .left) (c .if3 .left)), λ e. shaped-member (c .before .before .before .before .args .key) (c .before .before .before .before .args .numbers) (c .before .before .before .before .pre) (sym (c .before .before .before .is-member .ensures) ∙ not-false (c .before .before .before .is-member .result) (c .before .before .if1 .left)))
 
 pub member-line-spec : {M : Type 1} → statement M
-member-line-spec = tie.close (tie.spec is-member-requires returns returns-2 returns-3 returns-4)
+member-line-spec =
+    tie.close (tie.spec is-member-requires returns returns-2 cast-if3 returns-3 returns-4)

@@ -1,0 +1,35 @@
+use mathlib.Core.Path.{_≡_, refl, sym, ap, _∙_, subst}
+use borrow.Author.Tests.{lt-ltb, le-ltb, eq-eqb, ne-eqb}
+use native.Mathlib.Omega.{arith}
+use native.Mathlib.Numerals.{add-one}
+use Prim.Native.Nat.{ℕ, zero, suc, _+_, _-_, _≤_, _<_}
+use mathlib.Core.Bool.{Bool, true, false, _&&_}
+use lib.Dec.{eqb, ltb}
+use Rattle.sheet_rules.specs.RowLines.{twin}
+use Rattle.table.specs.View.{rowIn, rowsIn}
+use borrow.Author.Needs.{needs}
+use Rattle.row_store.proofs.lone_twin.Statement.{statement}
+use Rattle.row_store.proofs.lone_twin.Tie as tie
+use Rattle.row_store.proofs.lone_twin.Reads as reads
+use Rattle.row_store.proofs.lone_twin.Lts as lts
+use Rattle.twins.proofs.has_twin.Reads as has-twin-reads
+
+-- src/lib.rt:80:9
+has-twin-requires : tie.Need-has-twin-requires
+has-twin-requires c κs = search needs
+
+-- src/lib.rt:80:9
+returns : tie.Need-returns
+returns c =
+    c .has-twin .ensures
+    ∙ sym (ap (λ (b : Bool). b && twin (rowsIn (c .before .before .before .args .work .now) (c .before .before .before .args .i)) (rowIn (c .before .before .before .args .work .now) (c .before .before .before .args .i)))
+    (eq-eqb (c .before .before .before .args .count) 0 (c .before .if1 .taken)))
+
+-- src/lib.rt:75:1
+returns-2 : tie.Need-returns-2
+returns-2 c =
+    sym (ap (λ (b : Bool). b && twin (rowsIn (c .before .before .args .work .now) (c .before .before .args .i)) (rowIn (c .before .before .args .work .now) (c .before .before .args .i)))
+    (ne-eqb (c .before .before .args .count) 0 (c .if1 .left)))
+
+pub lone-twin-spec : {M : Type 1} → statement M
+lone-twin-spec = tie.close (tie.spec has-twin-requires returns returns-2)

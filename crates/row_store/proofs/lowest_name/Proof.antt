@@ -1,0 +1,51 @@
+use mathlib.Core.Path.{_≡_, refl, sym, ap, _∙_, subst}
+use borrow.Author.Tests.{lt-ltb, le-ltb, eq-eqb, ne-eqb}
+use native.Mathlib.Omega.{arith}
+use native.Mathlib.Numerals.{add-one}
+use Prim.Native.Nat.{ℕ, zero, suc, _+_, _-_, _≤_, _<_}
+use mathlib.Core.Bool.{Bool, true, false, _&&_}
+use lib.Dec.{eqb, ltb}
+use Rattle.lists.specs.Tab.{tab}
+use Rattle.sheet_rules.specs.RowLines.{nameOf}
+use Rattle.judges.specs.Told.{Lowest}
+use Rattle.table.specs.View.{memberIn, membersIn}
+use Rattle.row_store.proofs.NameLaws.{lowest-none, lowest-after}
+use borrow.Author.Needs.{needs}
+use Rattle.row_store.proofs.lowest_name.Statement.{statement}
+use Rattle.row_store.proofs.lowest_name.Tie as tie
+use Rattle.row_store.proofs.lowest_name.Reads as reads
+use Rattle.row_store.proofs.lowest_name.Lts as lts
+use Rattle.row_store.proofs.name_of.Reads as name-of-reads
+use Rattle.table.proofs.rows.member.Reads as member-reads
+
+-- src/lib.rt:23:9
+returns : tie.Need-returns
+returns c = subst (λ (j : ℕ). Lowest (membersIn (c .before .before .args .work .now) (c .before .before .args .i) j) 0) (sym (c .if1 .taken)) (lowest-none (memberIn (c .before .before .args .work .now) (c .before .before .args .i)))
+
+-- src/lib.rt:25:42
+sub-member : tie.Need-sub-member
+sub-member c = search needs
+
+-- src/lib.rt:25:9
+member-requires : tie.Need-member-requires
+member-requires c κs = search needs
+
+-- src/lib.rt:26:5
+name-of-requires : tie.Need-name-of-requires
+name-of-requires c κs = search needs
+
+-- src/lib.rt:26:5
+add-result : tie.Need-add-result
+add-result c = search needs
+
+-- src/lib.rt:18:1
+returns-2 : tie.Need-returns-2
+returns-2 c =
+    let e : suc (c .before .before .before .before .args .j - 1) ≡ c .before .before .before .before .args .j = omega (arith, c .before .before .if1 .left) in
+    subst (λ (j : ℕ). Lowest (membersIn (c .before .before .before .before .args .work .now) (c .before .before .before .before .args .i) j) (c .name-of .result + 1)) e
+    (lowest-after (memberIn (c .before .before .before .before .args .work .now) (c .before .before .before .before .args .i)) (c .before .before .before .before .args .j - 1) (c .before .member .result) (c .before .member .ensures) (c .name-of .result + 1)
+    (ap (λ (n : ℕ). n + 1) (c .name-of .ensures .0)))
+
+pub lowest-name-spec : {M : Type 1} → statement M
+lowest-name-spec =
+    tie.close (tie.spec returns sub-member member-requires name-of-requires add-result returns-2)
