@@ -8,9 +8,10 @@ ghost use Rattle.sheet_rules.specs.Lines.{linesOf};
 ghost use Rattle.sheet_rules.specs.Reader.{one, countLine, existingLine};
 ghost use Rattle.sheet_rules.specs.RowLines.{rowLine};
 ghost use Rattle.sheet_rules.specs.FormLines.{formLine, bodyLine};
-ghost use Rattle.line_reader.specs.Told.{Room, settled, numberRead, Onward};
-ghost use Rattle.judges.specs.Told.{Known};
+ghost use Rattle.line_reader.specs.Told.{Room, settled, numberRead, Onward, pairSettled, pairRead, PairOnward};
+ghost use Rattle.judges.specs.Told.{Known, rowTold, formTold};
 use judges::NumberJudged;
+use judges::PairJudged;
 use lexer::LineRead;
 use sheet_rules::Key;
 use sheet_rules::Reason;
@@ -18,6 +19,26 @@ use sheet_rules::Reason;
 // A line with one number: the number and the place after the line, or the refusal.
 pub enum NumberLine {
     Number { value: u16, at: usize, line: u32 },
+    Refused { reason: Reason, line: u32 },
+}
+
+// A line with two numbers: the numbers and the place after the line, or the refusal.
+pub enum PairLine {
+    Pair {
+        first: u16,
+        second: u16,
+        at: usize,
+        line: u32,
+    },
+    Refused {
+        reason: Reason,
+        line: u32,
+    },
+}
+
+// How reading some lines goes on: the place after them, or the refusal.
+pub enum Progress {
+    Moved { at: usize, line: u32 },
     Refused { reason: Reason, line: u32 },
 }
 
@@ -84,4 +105,48 @@ pub fn read_body(text: &[u8], at: usize, line: u32, wanted: Key, used: u16) -> N
         };
     };
     number_line(judges::body_line(wanted, used, key, numbers), next, line)
+}
+
+// Two judged numbers, with the place after their line.
+fn pair_line(judged: PairJudged, at: usize, line: u32) -> PairLine
+    requires { ⌜ line < 4294967295 ⌝ }
+    ensures { λ r. ⌜ r ≡ pairSettled judged at line ⌝ }
+{
+    match judged {
+        PairJudged::Pair { first, second } => PairLine::Pair {
+            first,
+            second,
+            at,
+            line: line + 1,
+        },
+        PairJudged::Refused { reason } => PairLine::Refused { reason, line },
+    }
+}
+
+// `type=K,M`, but for the test whether the row has a twin.
+pub fn read_row_head(text: &[u8], at: usize, line: u32) -> PairLine
+    requires { ⌜ Room (now text) at line ⌝ }
+    ensures { λ r. ⌜ ((earlier : List RowRule) → pairRead (now (text .entry)) line (rowTold earlier) r ≡ one (rowLine earlier) (linesOf (drop at (now (text .entry)))) line) × PairOnward (now (text .entry)) at line r ⌝ }
+{
+    let LineRead::Line { key, numbers, next } = lexer::read_line(text, at) else {
+        return PairLine::Refused {
+            reason: Reason::Malformed,
+            line,
+        };
+    };
+    pair_line(judges::row_line(key, numbers), next, line)
+}
+
+// `form=T,C`, in a sheet of so many rows.
+pub fn read_form_head(text: &[u8], at: usize, line: u32, rows: u16) -> PairLine
+    requires { ⌜ Room (now text) at line ⌝ }
+    ensures { λ r. ⌜ (pairRead (now (text .entry)) line formTold r ≡ one (formLine rows) (linesOf (drop at (now (text .entry)))) line) × PairOnward (now (text .entry)) at line r ⌝ }
+{
+    let LineRead::Line { key, numbers, next } = lexer::read_line(text, at) else {
+        return PairLine::Refused {
+            reason: Reason::Malformed,
+            line,
+        };
+    };
+    pair_line(judges::form_line(rows, key, numbers), next, line)
 }
