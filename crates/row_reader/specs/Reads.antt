@@ -1,0 +1,59 @@
+-- What reading rows into the table ensures. Stands on reading, the table's view, and the readers of lines.
+use Prim.Native.Nat.{ℕ, suc, _+_, _≤_, _<_}
+use mathlib.Core.Path.{_≡_}
+use mathlib.Core.List.{List, []}
+use lib.ListN.{length, drop}
+use Rattle.sheet_rules.specs.declared.Key.{Key}
+use Rattle.sheet_rules.specs.declared.Member.{Member}
+use Rattle.sheet_rules.specs.Lines.{linesOf}
+use Rattle.sheet_rules.specs.Sheet.{Row}
+use Rattle.sheet_rules.specs.Reader.{Read, settle, one, many}
+use Rattle.sheet_rules.specs.RowLines.{Heading, kindOf, memberLine, readRow}
+use Rattle.lexer.specs.declared.Numbers.{Numbers}
+use Rattle.lexer.specs.Scan.{listOf}
+use Rattle.judges.specs.Told.{memberRest}
+use Rattle.table.specs.Layout.{rowAddress, memberAddress, workSize}
+use Rattle.table.specs.View.{cell, memberIn, membersIn, rowIn, rowsIn}
+use Rattle.table.specs.Only.{Only}
+use Rattle.line_reader.specs.declared.Progress.{Progress}
+use Rattle.line_reader.specs.Told.{Room, readTold, Advanced}
+
+-- the heading of row i, as it is stored
+abbrev pub headingIn : List ℕ → ℕ → Heading
+headingIn w i = record { kind = kindOf (cell w (rowAddress i)); count = cell w (rowAddress i + 1) }
+
+-- a row whose heading is stored
+pub record Headed (w : List ℕ) (i count : ℕ) : Type 0 where
+  pub row : i < 64
+  pub few : count ≤ 8
+  pub counted : cell w (rowAddress i + 1) ≡ count
+  pub size : workSize ≤ length w
+
+-- member j of a row whose heading is stored
+pub record InRow (w : List ℕ) (i j count : ℕ) : Type 0 where
+  pub row : i < 64
+  pub member : j < count
+  pub few : count ≤ 8
+  pub counted : cell w (rowAddress i + 1) ≡ count
+  pub size : workSize ≤ length w
+
+-- a judged member, kept: what is left to ask of its line was asked
+pub record Kept (i j : ℕ) (k : Key) (ns : Numbers) (next n : ℕ) (w w′ : List ℕ) (r : Progress) : Type 0 where
+  pub told : (text : List ℕ)
+      → readTold text r (memberIn w′ i j)
+      ≡ settle (memberRest (rowsIn w i) (headingIn w i) (membersIn w i j) k (listOf ns)) (linesOf (drop next text)) n
+  pub only : Only (memberAddress i j) (memberAddress i j + 4) w w′
+  pub moves : (at n′ : ℕ) → r ≡ Progress.Moved at n′ → (at ≡ next) × (n′ ≡ n + 1)
+
+-- one member, read
+pub record MemberRead (text : List ℕ) (i j at n : ℕ) (w w′ : List ℕ) (r : Progress) : Type 0 where
+  pub told : readTold text r (memberIn w′ i j) ≡ one (memberLine (rowsIn w i) (headingIn w i) (membersIn w i j)) (linesOf (drop at text)) n
+  pub only : Only (memberAddress i j) (memberAddress i j + 4) w w′
+  pub advanced : Advanced text at r
+
+-- all members of a row, read
+pub record MembersRead (text : List ℕ) (i count at n : ℕ) (w w′ : List ℕ) (r : Progress) : Type 0 where
+  pub told : readTold text r (membersIn w′ i count)
+      ≡ many count (λ before. one (memberLine (rowsIn w i) (headingIn w i) before)) [] (linesOf (drop at text)) n
+  pub only : Only (rowAddress i + 4) (rowAddress i + 36) w w′
+  pub advanced : Advanced text at r

@@ -1,0 +1,101 @@
+// The type rows, read into the table.
+ghost use mathlib.Core.Path.{_≡_};
+ghost use mathlib.Core.List.{List};
+ghost use Prim.Native.Nat.{ℕ, _≤_, _<_, _+_};
+ghost use lib.ListN.{length};
+ghost use Rattle.judges.specs.Told.{MemberShaped};
+ghost use Rattle.row_reader.specs.Reads.{Headed, InRow, Kept, MemberRead, MembersRead};
+ghost use Rattle.line_reader.specs.Told.{Room};
+use judges::LineJudged;
+use lexer::LineRead;
+use lexer::Numbers;
+use line_reader::Progress;
+use sheet_rules::Key;
+use sheet_rules::Reason;
+
+// Stores a judged member as member j of row i, and tests the row.
+fn keep_member(
+    work: &mut [u16],
+    i: usize,
+    j: usize,
+    count: usize,
+    key: Key,
+    numbers: Numbers,
+    next: usize,
+    line: u32,
+) -> Progress
+    requires { ⌜ InRow (now work) i j count × MemberShaped key numbers × (line < 4294967295) ⌝ }
+    ensures { λ r. ⌜ Kept i j key numbers next line (now (work .entry)) (now (work .exit)) r ⌝ }
+{
+    row_store::store_member(work, i, j, key, numbers);
+    if row_store::completes_twin(work, i, j, count) {
+        return Progress::Refused {
+            reason: Reason::DuplicateRow,
+            line,
+        };
+    }
+    let m = table::rows::member(work, i, j);
+    if !row_store::mentions_below(i, m) {
+        return Progress::Refused {
+            reason: Reason::NotDefined,
+            line,
+        };
+    }
+    Progress::Moved {
+        at: next,
+        line: line + 1,
+    }
+}
+
+// Member j of row i, read from a place of the text.
+fn read_member(
+    text: &[u8],
+    work: &mut [u16],
+    i: usize,
+    j: usize,
+    count: usize,
+    at: usize,
+    line: u32,
+) -> Progress
+    requires { ⌜ Room (now text) at line × InRow (now work) i j count ⌝ }
+    ensures { λ r. ⌜ MemberRead (now (text .entry)) i j at line (now (work .entry)) (now (work .exit)) r ⌝ }
+{
+    let LineRead::Line { key, numbers, next } = lexer::read_line(text, at) else {
+        return Progress::Refused {
+            reason: Reason::Malformed,
+            line,
+        };
+    };
+    let lowest = row_store::lowest_name(work, i, j);
+    match judges::member_line(lowest, key, numbers) {
+        LineJudged::Good => keep_member(work, i, j, count, key, numbers, next, line),
+        LineJudged::Refused { reason } => Progress::Refused { reason, line },
+    }
+}
+
+// The members of row i, whose heading is stored.
+fn read_members(
+    text: &[u8],
+    work: &mut [u16],
+    i: usize,
+    count: usize,
+    from: usize,
+    first: u32,
+) -> Progress
+    requires { ⌜ Room (now text) from first × Headed (now work) i count ⌝ }
+    ensures { λ r. ⌜ MembersRead (now (text .entry)) i count from first (now (work .entry)) (now (work .exit)) r ⌝ }
+{
+    let mut j = 0;
+    let mut at = from;
+    let mut line = first;
+    while j < count {
+        let r = read_member(text, work, i, j, count, at, line);
+        let Progress::Moved { at: a, line: l } = r else {
+            return r;
+        };
+        at = a;
+        line = l;
+        j = j + 1;
+    }
+    Progress::Moved { at, line }
+}
