@@ -1,5 +1,5 @@
 -- What the code's answers tell, in the rules' words. Stands on the rules' judgements.
-use Prim.Native.Nat.{ℕ, suc}
+use Prim.Native.Nat.{ℕ, suc, _≤_}
 use mathlib.Core.Path.{_≡_}
 use mathlib.Core.Bool.{Bool, not, _&&_}
 use mathlib.Core.List.{List, [], _∷_, _++_}
@@ -9,6 +9,7 @@ use Rattle.sheet_rules.specs.declared.Key.{Key}
 use Rattle.sheet_rules.specs.declared.Member.{Member}
 use Rattle.sheet_rules.specs.Keys.{codeOf, countOf}
 use Rattle.lexer.specs.declared.Numbers.{Numbers}
+use Rattle.sheet_rules.specs.declared.Reason.{Reason}
 use Rattle.sheet_rules.specs.declared.Reason.the-variants.{DuplicateRow, NotDefined}
 use Rattle.sheet_rules.specs.Sheet.{Row}
 use Rattle.sheet_rules.specs.Reader.{Judged, good, bad, demand}
@@ -43,6 +44,11 @@ rowTold earlier (PairJudged.Refused r) = bad r
 abbrev pub formTold : PairJudged → Judged FormHeading
 formTold (PairJudged.Pair a c) = good (record { row = a; count = c })
 formTold (PairJudged.Refused r) = bad r
+
+-- the second number of a heading, members or kept values, is at most 8
+pub data AtMost8 : PairJudged → Type 0 where
+  at-most : {a b : ℕ} → b ≤ 8 → AtMost8 (PairJudged.Pair a b)
+  none-there : {r : Reason} → AtMost8 (PairJudged.Refused r)
 
 -- a line whose numbers are kept, judged: what is then made of them, or the refusal
 abbrev pub lineTold : {A : Type 0} → LineJudged → Judged A → Judged A

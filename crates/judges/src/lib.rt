@@ -10,7 +10,7 @@ ghost use Rattle.sheet_rules.specs.declared.Member.{Member as MemberRule};
 ghost use Rattle.sheet_rules.specs.RowLines.{Heading, rowLine, memberLine};
 ghost use Rattle.sheet_rules.specs.FormLines.{formLine, bodyLine, instrLine, instrOf};
 ghost use Rattle.lexer.specs.Scan.{listOf};
-ghost use Rattle.judges.specs.Told.{factsOf, numberTold, rowTold, formTold, lineTold, Lowest, memberRest, MemberShaped};
+ghost use Rattle.judges.specs.Told.{factsOf, numberTold, rowTold, formTold, AtMost8, lineTold, Lowest, memberRest, MemberShaped};
 use lexer::Numbers;
 use sheet_rules::Key;
 use sheet_rules::Reason;
@@ -222,7 +222,7 @@ pub fn body_line(wanted: Key, used: u16, key: Key, numbers: Numbers) -> NumberJu
 // `type=K,M`, but for the test whether the row has a twin.
 pub fn row_line(key: Key, numbers: Numbers) -> PairJudged
     requires { ⌜ numbers .count ≤ 9 ⌝ }
-    ensures { λ r. ⌜ ((earlier : List RowRule) → rowTold earlier r ≡ rowLine earlier key (listOf numbers)) ⌝ }
+    ensures { λ r. ⌜ ((earlier : List RowRule) → rowTold earlier r ≡ rowLine earlier key (listOf numbers)) × AtMost8 r ⌝ }
 {
     let shaped = has_key(Key::Row, key, numbers);
     if !shaped {
@@ -248,7 +248,7 @@ pub fn row_line(key: Key, numbers: Numbers) -> PairJudged
 // `form=T,C`, in a sheet of so many rows.
 pub fn form_line(rows: u16, key: Key, numbers: Numbers) -> PairJudged
     requires { ⌜ numbers .count ≤ 9 ⌝ }
-    ensures { λ r. ⌜ formTold r ≡ formLine rows key (listOf numbers) ⌝ }
+    ensures { λ r. ⌜ (formTold r ≡ formLine rows key (listOf numbers)) × AtMost8 r ⌝ }
 {
     let shaped = has_key(Key::Form, key, numbers);
     if !shaped {

@@ -13,6 +13,7 @@ use Rattle.lexer.specs.declared.Numbers.{Numbers}
 use Rattle.lexer.specs.declared.LineRead.{LineRead}
 use Rattle.lexer.specs.Scan.{listOf, lineAt}
 use Rattle.judges.specs.declared.PairJudged.{PairJudged}
+use Rattle.judges.specs.Told.{AtMost8, at-most, none-there}
 use Rattle.judges.proofs.StrictLaws.{Strict, one-torn, one-line, Taken, line-taken}
 use Rattle.line_reader.specs.declared.PairLine.{PairLine}
 use Rattle.line_reader.specs.Told.{Room, pairSettled, pairRead, PairOnward}
@@ -22,18 +23,18 @@ unfolding settle
 settle-bad q ls n = refl
 
 module _ (text : List ℕ) (at n : ℕ) where
-  pub pair-onward : Room text at n → (k : Key) (ns : Numbers) (j : ℕ) → lineAt text at ≡ LineRead.Line k ns j → (jd : PairJudged)
+  pub pair-onward : Room text at n → (k : Key) (ns : Numbers) (j : ℕ) → lineAt text at ≡ LineRead.Line k ns j → (jd : PairJudged) → AtMost8 jd
       → (r : PairLine) → r ≡ pairSettled jd j n → PairOnward text at n r
-  pair-onward room k ns j e jd r p = subst (PairOnward text at n) (sym p) (go jd)
+  pair-onward room k ns j e jd few r p = subst (PairOnward text at n) (sym p) (go jd few)
     where
       t : Taken text at k ns j
       t = line-taken text at k ns j e
 
-      go : (x : PairJudged) → PairOnward text at n (pairSettled x j n)
-      go (PairJudged.Pair a b) =
+      go : (x : PairJudged) → AtMost8 x → PairOnward text at n (pairSettled x j n)
+      go (PairJudged.Pair a b) (at-most h) =
           let l : n + 1 ≤ j + 1 = (let u = room .lines in let v = t .later in omega arith) in
-          PairOnward.moved (t .later) (record { small = room .small; inside = t .inside; lines = l })
-      go (PairJudged.Refused q) = PairOnward.stopped
+          PairOnward.moved (t .later) (record { small = room .small; inside = t .inside; lines = l }) h
+      go (PairJudged.Refused q) none-there = PairOnward.stopped
 
   module _ {A : Type 0} (judge : Key → List ℕ → Judged A) where
     pub pair-torn : Strict judge → lineAt text at ≡ LineRead.Torn → refused Malformed n ≡ one judge (linesOf (drop at text)) n

@@ -43,7 +43,7 @@ pairRead text n tell (PairLine.Pair a b at n′) = settle (tell (PairJudged.Pair
 pairRead text n tell (PairLine.Refused r l) = refused r l
 
 pub data PairOnward (text : List ℕ) (at line : ℕ) : PairLine → Type 0 where
-  moved : {a b at′ : ℕ} → at < at′ → Room text at′ (line + 1) → PairOnward text at line (PairLine.Pair a b at′ (line + 1))
+  moved : {a b at′ : ℕ} → at < at′ → Room text at′ (line + 1) → b ≤ 8 → PairOnward text at line (PairLine.Pair a b at′ (line + 1))
   stopped : {r : Reason} {n : ℕ} → PairOnward text at line (PairLine.Refused r n)
 
 -- some lines, read, with the value that they left

@@ -1,3 +1,5 @@
 pub mod KeepLaws
 pub mod MemberLaws
 pub mod MembersLaws
+pub mod RowLaws
+pub mod RowsLaws

@@ -7,11 +7,12 @@ use Rattle.sheet_rules.specs.declared.Key.{Key}
 use Rattle.sheet_rules.specs.declared.Member.{Member}
 use Rattle.sheet_rules.specs.Lines.{linesOf}
 use Rattle.sheet_rules.specs.Sheet.{Row}
-use Rattle.sheet_rules.specs.Reader.{Read, settle, one, many}
+use Rattle.sheet_rules.specs.Reader.{Read, give, andThen, settle, one, many}
 use Rattle.sheet_rules.specs.RowLines.{Heading, kindOf, memberLine, readRow}
 use Rattle.lexer.specs.declared.Numbers.{Numbers}
 use Rattle.lexer.specs.Scan.{listOf}
-use Rattle.judges.specs.Told.{memberRest}
+use Rattle.judges.specs.declared.PairJudged.{PairJudged}
+use Rattle.judges.specs.Told.{memberRest, rowTold}
 use Rattle.table.specs.Layout.{rowAddress, memberAddress, workSize}
 use Rattle.table.specs.View.{cell, memberIn, membersIn, rowIn, rowsIn}
 use Rattle.table.specs.Only.{Only}
@@ -56,4 +57,29 @@ pub record MembersRead (text : List ℕ) (i count at n : ℕ) (w w′ : List ℕ
   pub told : readTold text r (membersIn w′ i count)
       ≡ many count (λ before. one (memberLine (rowsIn w i) (headingIn w i) before)) [] (linesOf (drop at text)) n
   pub only : Only (rowAddress i + 4) (rowAddress i + 36) w w′
+  pub advanced : Advanced text at r
+
+-- a row from its heading on: its twin is asked, and its members are read
+unfoldable pub rowRest : List Row → Read Heading → Read Row
+rowRest earlier x =
+    andThen x
+    (λ h ls n. andThen (many (h .count) (λ before. one (memberLine earlier h before)) [] ls n) (λ members. give (record { kind = h .kind; members = members })))
+
+-- a row whose heading was read at line n, kept
+pub record RowKept (text : List ℕ) (i kind count at n : ℕ) (w w′ : List ℕ) (r : Progress) : Type 0 where
+  pub told : readTold text r (rowIn w′ i)
+      ≡ rowRest (rowsIn w i) (settle (rowTold (rowsIn w i) (PairJudged.Pair kind count)) (linesOf (drop at text)) n)
+  pub only : Only (rowAddress i) (rowAddress i + 36) w w′
+  pub advanced : Advanced text at r
+
+-- a row, read
+pub record RowRead (text : List ℕ) (i at n : ℕ) (w w′ : List ℕ) (r : Progress) : Type 0 where
+  pub told : readTold text r (rowIn w′ i) ≡ readRow (rowsIn w i) (linesOf (drop at text)) n
+  pub only : Only (rowAddress i) (rowAddress i + 36) w w′
+  pub advanced : Advanced text at r
+
+-- all rows of a sheet, read; nothing before or behind the rows' part of the table has changed
+pub record RowsRead (text : List ℕ) (count at n : ℕ) (w w′ : List ℕ) (r : Progress) : Type 0 where
+  pub told : readTold text r (rowsIn w′ count) ≡ many count readRow [] (linesOf (drop at text)) n
+  pub only : Only (rowAddress 0) (rowAddress 63 + 36) w w′
   pub advanced : Advanced text at r

@@ -4,11 +4,13 @@ ghost use mathlib.Core.List.{List};
 ghost use Prim.Native.Nat.{ℕ, _≤_, _<_, _+_};
 ghost use lib.ListN.{length};
 ghost use Rattle.judges.specs.Told.{MemberShaped};
-ghost use Rattle.row_reader.specs.Reads.{Headed, InRow, Kept, MemberRead, MembersRead};
+ghost use Rattle.row_reader.specs.Reads.{Headed, InRow, Kept, MemberRead, MembersRead, RowKept, RowRead, RowsRead};
 ghost use Rattle.line_reader.specs.Told.{Room};
+ghost use Rattle.table.specs.Layout.{workSize};
 use judges::LineJudged;
 use lexer::LineRead;
 use lexer::Numbers;
+use line_reader::PairLine;
 use line_reader::Progress;
 use sheet_rules::Key;
 use sheet_rules::Reason;
@@ -96,6 +98,68 @@ fn read_members(
         at = a;
         line = l;
         j = j + 1;
+    }
+    Progress::Moved { at, line }
+}
+
+// Stores the heading of row i, read at a line, and reads its members from the place after it.
+fn keep_row(
+    text: &[u8],
+    work: &mut [u16],
+    i: usize,
+    kind: u16,
+    count: u16,
+    at: usize,
+    line: u32,
+) -> Progress
+    requires { ⌜ Room (now text) at (line + 1) × (i < 64) × (count ≤ 8) × (workSize ≤ length (now work)) ⌝ }
+    ensures { λ r. ⌜ RowKept (now (text .entry)) i kind count at line (now (work .entry)) (now (work .exit)) r ⌝ }
+{
+    let base = 16 + 36 * i;
+    table::put(work, base, kind);
+    table::put(work, base + 1, count);
+    let members = table::rows::wide(count);
+    if row_store::lone_twin(work, i, members) {
+        return Progress::Refused {
+            reason: Reason::DuplicateRow,
+            line,
+        };
+    }
+    read_members(text, work, i, members, at, line + 1)
+}
+
+// Row i, read from a place of the text.
+fn read_row(text: &[u8], work: &mut [u16], i: usize, at: usize, line: u32) -> Progress
+    requires { ⌜ Room (now text) at line × (i < 64) × (workSize ≤ length (now work)) ⌝ }
+    ensures { λ r. ⌜ RowRead (now (text .entry)) i at line (now (work .entry)) (now (work .exit)) r ⌝ }
+{
+    match line_reader::read_row_head(text, at, line) {
+        PairLine::Pair {
+            first,
+            second,
+            at: next,
+            line: _,
+        } => keep_row(text, work, i, first, second, next, line),
+        PairLine::Refused { reason, line: n } => Progress::Refused { reason, line: n },
+    }
+}
+
+// The rows of a sheet, as many as its `types` line says, from a place of the text.
+pub fn read_rows(text: &[u8], work: &mut [u16], count: usize, from: usize, first: u32) -> Progress
+    requires { ⌜ Room (now text) from first × (count ≤ 64) × (workSize ≤ length (now work)) ⌝ }
+    ensures { λ r. ⌜ RowsRead (now (text .entry)) count from first (now (work .entry)) (now (work .exit)) r ⌝ }
+{
+    let mut i = 0;
+    let mut at = from;
+    let mut line = first;
+    while i < count {
+        let r = read_row(text, work, i, at, line);
+        let Progress::Moved { at: a, line: l } = r else {
+            return r;
+        };
+        at = a;
+        line = l;
+        i = i + 1;
     }
     Progress::Moved { at, line }
 }

@@ -40,9 +40,9 @@ pair-line-requires c κs = search needs
 -- src/lib.rt:124:1
 returns-2 : tie.Need-returns-2
 returns-2 c = (
-  (λ earlier. pair-read (c .before .before .before .before .before .before .before .args .text .now) (c .before .before .before .before .before .before .before .args .at) (c .before .before .before .before .before .before .before .args .line) (rowLine earlier) (rowTold earlier) (λ q. refl) _ _ _ (sym (c .before .before .before .before .before .read-line .ensures) ∙ c .before .before .before .key .given .1) (c .before .row-line .result) (c .before .row-line .ensures earlier)
+  (λ earlier. pair-read (c .before .before .before .before .before .before .before .args .text .now) (c .before .before .before .before .before .before .before .args .at) (c .before .before .before .before .before .before .before .args .line) (rowLine earlier) (rowTold earlier) (λ q. refl) _ _ _ (sym (c .before .before .before .before .before .read-line .ensures) ∙ c .before .before .before .key .given .1) (c .before .row-line .result) (c .before .row-line .ensures .0 earlier)
       (c .pair-line .result) (c .pair-line .ensures)),
-  pair-onward (c .before .before .before .before .before .before .before .args .text .now) (c .before .before .before .before .before .before .before .args .at) (c .before .before .before .before .before .before .before .args .line) (c .before .before .before .before .before .before .before .pre) _ _ _ (sym (c .before .before .before .before .before .read-line .ensures) ∙ c .before .before .before .key .given .1) (c .before .row-line .result) (c .pair-line .result) (c .pair-line .ensures),
+  pair-onward (c .before .before .before .before .before .before .before .args .text .now) (c .before .before .before .before .before .before .before .args .at) (c .before .before .before .before .before .before .before .args .line) (c .before .before .before .before .before .before .before .pre) _ _ _ (sym (c .before .before .before .before .before .read-line .ensures) ∙ c .before .before .before .key .given .1) (c .before .row-line .result) (c .before .row-line .ensures .1) (c .pair-line .result) (c .pair-line .ensures),
 )
 
 pub read-row-head-spec : {M : Type 1} → statement M

@@ -1,0 +1,200 @@
+-- Reading one row: its heading stored, its twin asked, its members read. Assumes nothing.
+use Prim.Native.Nat.{ℕ, zero, suc, _+_, _*_, _≤_, _<_, min}
+use native.Mathlib.Omega.{arith}
+use native.Mathlib.Numerals.{add-one}
+use mathlib.Core.Path.{_≡_, refl, sym, ap, ap₂, _∙_, subst}
+use mathlib.Core.Bool.{Bool, true, false, not, _&&_}
+use mathlib.Core.List.{List, [], _∷_, _++_}
+use lib.Dec.{T, eqb, eqb→eq}
+use lib.ListN.{length, drop, set, length-set}
+use lib.Seq.{getD-set-same, getD-set-other}
+use Rattle.lists.specs.Tab.{tab}
+use Rattle.lists.proofs.TabLaws.{tab-ext}
+use Rattle.sheet_rules.specs.declared.Member.{Member}
+use Rattle.sheet_rules.specs.declared.Reason.{Reason}
+use Rattle.sheet_rules.specs.declared.Reason.the-variants.{DuplicateRow}
+use Rattle.sheet_rules.specs.Lines.{Line, linesOf}
+use Rattle.sheet_rules.specs.Sheet.{Row}
+use Rattle.sheet_rules.specs.Reader.{Judged, good, bad, demand, Read, got, refused, give, andThen, settle, one, many}
+use Rattle.sheet_rules.specs.RowLines.{Heading, kindOf, twin, rowLine, memberLine, readRow}
+use Rattle.judges.specs.declared.PairJudged.{PairJudged}
+use Rattle.judges.specs.Told.{rowTold}
+use Rattle.judges.proofs.JudgeLaws.{demand-no, demand-yes}
+use Rattle.table.specs.Layout.{rowAddress, workSize}
+use Rattle.table.specs.View.{cell, memberIn, membersIn, rowIn, rowsIn}
+use Rattle.table.specs.Only.{Only}
+use Rattle.table.proofs.ViewLaws.{only-refl, only-set, only-trans, only-widen, row-other}
+use Rattle.line_reader.specs.declared.PairLine.{PairLine}
+use Rattle.line_reader.specs.declared.Progress.{Progress}
+use Rattle.line_reader.specs.Told.{Room, pairRead, PairOnward, readTold, Advanced}
+use Rattle.row_reader.specs.Reads.{headingIn, Headed, MembersRead, rowRest, RowKept, RowRead}
+
+-- a row of a kind's number and members
+abbrev rowOf : ℕ → List Member → Row
+rowOf kind members = record { kind = kindOf kind; members = members }
+
+-- a row's heading, stored
+abbrev pub headed : List ℕ → ℕ → ℕ → ℕ → List ℕ
+headed w i kind count = set (set w (rowAddress i) kind) (rowAddress i + 1) count
+
+module _ (w : List ℕ) (i kind count : ℕ) (size : workSize ≤ length w) where
+  kind-stored : cell (headed w i kind count) (rowAddress i) ≡ kind
+  kind-stored =
+      getD-set-other (set w (rowAddress i) kind) (rowAddress i + 1) (rowAddress i) count 0 (λ e. omega arith)
+      ∙ getD-set-same w (rowAddress i) kind 0 (omega arith)
+
+  pub count-stored : cell (headed w i kind count) (rowAddress i + 1) ≡ count
+  count-stored = getD-set-same (set w (rowAddress i) kind) (rowAddress i + 1) count 0 (omega (arith, length-set w (rowAddress i) kind))
+
+  pub headed-only : Only (rowAddress i) (rowAddress i + 36) w (headed w i kind count)
+  headed-only =
+      only-trans (only-set (rowAddress i) (rowAddress i + 36) w (rowAddress i) kind (omega arith) (omega arith))
+      (only-set (rowAddress i) (rowAddress i + 36) (set w (rowAddress i) kind) (rowAddress i + 1) count (omega arith) (omega arith))
+
+  module _ (hi : i < 64) where
+    rows-kept : (w′ : List ℕ) → Only (rowAddress i) (rowAddress i + 36) w w′ → rowsIn w′ i ≡ rowsIn w i
+    rows-kept w′ o = tab-ext (rowIn w′) (rowIn w) i (λ k l. row-other w w′ i k o hi (omega arith) (λ e. omega arith))
+
+    heading : headingIn (headed w i kind count) i ≡ record { kind = kindOf kind; count = count }
+    heading = λ x. record { kind = kindOf (kind-stored x); count = count-stored x }
+
+    -- a row without members
+    lone : count ≡ 0 → rowIn (headed w i kind count) i ≡ record { kind = kindOf kind; members = [] }
+    unfolding rowIn tab
+    lone e = λ x. record { kind = kindOf (kind-stored x); members = ap (membersIn (headed w i kind count) i) (count-stored ∙ e) x }
+
+    twin-asked : (eqb count 0 && twin (rowsIn (headed w i kind count) i) (rowIn (headed w i kind count) i))
+        ≡ (eqb count 0 && twin (rowsIn w i) (record { kind = kindOf kind; members = [] }))
+    twin-asked = go (eqb count 0) refl
+      where
+        go : (b : Bool) → eqb count 0 ≡ b
+            → (b && twin (rowsIn (headed w i kind count) i) (rowIn (headed w i kind count) i)) ≡ (b && twin (rowsIn w i) (record { kind = kindOf kind; members = [] }))
+        go false e = refl
+        go true e = ap₂ twin (rows-kept (headed w i kind count) headed-only) (lone (eqb→eq count 0 (subst T (sym e) tt)))
+
+    told-twin : (eqb count 0 && twin (rowsIn (headed w i kind count) i) (rowIn (headed w i kind count) i)) ≡ true
+        → (ls : List Line) (n : ℕ) → rowRest (rowsIn w i) (settle (rowTold (rowsIn w i) (PairJudged.Pair kind count)) ls n) ≡ refused DuplicateRow n
+    unfolding rowRest andThen settle
+    told-twin e ls n = ap (λ x. rowRest (rowsIn w i) (settle x ls n)) (demand-no _ _ _ (ap not (sym twin-asked ∙ e)))
+
+    told-on : (eqb count 0 && twin (rowsIn (headed w i kind count) i) (rowIn (headed w i kind count) i)) ≡ false
+        → (ls : List Line) (n : ℕ)
+        → rowRest (rowsIn w i) (settle (rowTold (rowsIn w i) (PairJudged.Pair kind count)) ls n)
+        ≡ andThen (many count (λ before. one (memberLine (rowsIn w i) (record { kind = kindOf kind; count = count }) before)) [] ls (suc n))
+        (λ members. give (record { kind = kindOf kind; members = members }))
+    unfolding rowRest andThen settle
+    told-on e ls n = ap (λ x. rowRest (rowsIn w i) (settle x ls n)) (demand-yes _ _ _ (ap not (sym twin-asked ∙ e)))
+
+    module _ (text : List ℕ) (at n : ℕ) where
+      pub row-twin : (eqb count 0 && twin (rowsIn (headed w i kind count) i) (rowIn (headed w i kind count) i)) ≡ true
+          → RowKept text i kind count at n w (headed w i kind count) (Progress.Refused DuplicateRow n)
+      row-twin e = record { told = sym (told-twin e (linesOf (drop at text)) n); only = headed-only; advanced = Advanced.stopped }
+
+      pub row-members : (eqb count 0 && twin (rowsIn (headed w i kind count) i) (rowIn (headed w i kind count) i)) ≡ false
+          → (w′ : List ℕ) (r : Progress) → MembersRead text i count at (n + 1) (headed w i kind count) w′ r → RowKept text i kind count at n w w′ r
+      unfolding rowIn andThen
+      row-members e w′ r m =
+          record {
+            told =
+                ap (readTold text r) row′ ∙ each r
+                ∙ ap (λ x. andThen x (λ members. give (rowOf kind members)))
+                (m .told
+                ∙ ap₂ (λ (rs : List Row) (h : Heading). many count (λ before. one (memberLine rs h before)) [] (linesOf (drop at text)) (n + 1))
+                (rows-kept (headed w i kind count) headed-only) heading
+                ∙ ap (λ (l : ℕ). many count (λ before. one (memberLine (rowsIn w i) (record { kind = kindOf kind; count = count }) before)) [] (linesOf (drop at text)) l) (add-one n))
+                ∙ sym (told-on e (linesOf (drop at text)) n);
+            only = only-trans headed-only (only-widen (omega arith) (omega arith) (m .only));
+            advanced = m .advanced;
+          }
+        where
+          row′ : rowIn w′ i ≡ rowOf kind (membersIn w′ i count)
+          row′ =
+              λ x. record {
+                kind = kindOf ((m .only .below (rowAddress i) (omega arith) ∙ kind-stored) x);
+                members = membersIn w′ i ((m .only .below (rowAddress i + 1) (omega arith) ∙ count-stored) x);
+              }
+
+          each : (p : Progress) → readTold text p (rowOf kind (membersIn w′ i count))
+              ≡ andThen (readTold text p (membersIn w′ i count)) (λ members. give (rowOf kind members))
+          each (Progress.Moved a l) = refl
+          each (Progress.Refused q l) = refl
+
+-- the same, by what the calls left
+module _ (w : List ℕ) (i kind count : ℕ) (size : workSize ≤ length w) (hi : i < 64) (text : List ℕ) (at n : ℕ) (w₁ : List ℕ) (e : w₁ ≡ headed w i kind count)
+    (c′ : ℕ) (ec : c′ ≡ count) where
+  pub row-twin-by : (b : Bool) → b ≡ (eqb c′ 0 && twin (rowsIn w₁ i) (rowIn w₁ i)) → b ≡ true → RowKept text i kind count at n w w₁ (Progress.Refused DuplicateRow n)
+  row-twin-by b p q =
+      subst (λ (x : List ℕ). RowKept text i kind count at n w x (Progress.Refused DuplicateRow n)) (sym e)
+      (row-twin w i kind count size hi text at n
+      (sym (ap₂ (λ (x : List ℕ) (m : ℕ). eqb m 0 && twin (rowsIn x i) (rowIn x i)) e ec) ∙ sym p ∙ q))
+
+  pub row-members-by : (b : Bool) → b ≡ (eqb c′ 0 && twin (rowsIn w₁ i) (rowIn w₁ i)) → b ≡ false
+      → (w′ : List ℕ) (r : Progress) → MembersRead text i c′ at (n + 1) w₁ w′ r → RowKept text i kind count at n w w′ r
+  row-members-by b p q w′ r m =
+      row-members w i kind count size hi text at n
+      (sym (ap₂ (λ (x : List ℕ) (m : ℕ). eqb m 0 && twin (rowsIn x i) (rowIn x i)) e ec) ∙ sym p ∙ q) w′ r
+      (subst (λ (x : List ℕ). MembersRead text i count at (n + 1) x w′ r) e (subst (λ (k : ℕ). MembersRead text i k at (n + 1) w₁ w′ r) ec m))
+
+  pub headed-by : count ≤ 8 → Headed w₁ i c′
+  headed-by h =
+      subst (λ (x : List ℕ). Headed x i c′) (sym e)
+      (subst (Headed (headed w i kind count) i) (sym ec)
+      (record {
+        row = hi;
+        few = h;
+        counted = count-stored w i kind count size;
+        size = omega (arith, (headed-only w i kind count size) .size);
+      }))
+
+-- a whole row, from its heading's line on
+
+readRow-rest : (earlier : List Row) (ls : List Line) (n : ℕ) → readRow earlier ls n ≡ rowRest earlier (one (rowLine earlier) ls n)
+unfolding readRow rowRest
+readRow-rest earlier ls n = refl
+
+rest-refused : (earlier : List Row) (q : Reason) (n : ℕ) → rowRest earlier (refused q n) ≡ refused q n
+unfolding rowRest andThen
+rest-refused earlier q n = refl
+
+module _ (text : List ℕ) (at n : ℕ) where
+  -- the place after a heading
+  pub record Past (b at′ : ℕ) : Type 0 where
+    pub later : at < at′
+    pub room : Room text at′ (n + 1)
+    pub few : b ≤ 8
+
+  pub past : (p : PairLine) (a b at′ n′ : ℕ) → p ≡ PairLine.Pair a b at′ n′ → PairOnward text at n p → Past b at′
+  past p a b at′ n′ e o = go a b at′ n′ (subst (PairOnward text at n) e o)
+    where
+      go : (x y z m : ℕ) → PairOnward text at n (PairLine.Pair x y z m) → Past y z
+      go x y z m (PairOnward.moved l r f) = record { later = l; room = r; few = f }
+
+  module _ (i : ℕ) (w : List ℕ) (p : PairLine)
+      (head : (earlier : List Row) → pairRead text n (rowTold earlier) p ≡ one (rowLine earlier) (linesOf (drop at text)) n) where
+    told-by : readRow (rowsIn w i) (linesOf (drop at text)) n ≡ rowRest (rowsIn w i) (pairRead text n (rowTold (rowsIn w i)) p)
+    told-by = readRow-rest (rowsIn w i) (linesOf (drop at text)) n ∙ ap (rowRest (rowsIn w i)) (sym (head (rowsIn w i)))
+
+    pub row-read : (a b at′ n′ : ℕ) → p ≡ PairLine.Pair a b at′ n′ → PairOnward text at n p → (w′ : List ℕ) (r : Progress)
+        → RowKept text i a b at′ n w w′ r → RowRead text i at n w w′ r
+    row-read a b at′ n′ e o w′ r k =
+        record {
+          told = k .told ∙ sym (told-by ∙ ap (λ (x : PairLine). rowRest (rowsIn w i) (pairRead text n (rowTold (rowsIn w i)) x)) e);
+          only = k .only;
+          advanced = sooner r (k .advanced);
+        }
+      where
+        sooner : (x : Progress) → Advanced text at′ x → Advanced text at x
+        sooner (Progress.Moved at″ l) (Advanced.moved h rm) =
+            let z : at ≤ at″ = omega (arith, (past p a b at′ n′ e o) .later) in
+            Advanced.moved z rm
+        sooner (Progress.Refused q l) Advanced.stopped = Advanced.stopped
+
+    pub row-refused : (q : Reason) (l : ℕ) → p ≡ PairLine.Refused q l → RowRead text i at n w w (Progress.Refused q l)
+    row-refused q l e =
+        record {
+          told =
+              sym (told-by ∙ ap (λ (x : PairLine). rowRest (rowsIn w i) (pairRead text n (rowTold (rowsIn w i)) x)) e
+              ∙ rest-refused (rowsIn w i) q l);
+          only = only-refl (rowAddress i) (rowAddress i + 36) w;
+          advanced = Advanced.stopped;
+        }
