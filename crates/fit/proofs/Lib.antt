@@ -1,0 +1,2 @@
+pub mod MatchLaws
+pub mod FillLaws

@@ -1,0 +1,159 @@
+// The fit table: whether row a fits row b, for every two rows of the sheet in the work buffer, each pair settled once.
+ghost use mathlib.Core.Path.{_≡_};
+ghost use mathlib.Core.List.{List};
+ghost use Prim.Native.Nat.{ℕ, suc, _≤_, _<_, _+_};
+ghost use lib.ListN.{length};
+ghost use Rattle.sheet_rules.specs.Answers.{isYes};
+ghost use Rattle.sheet_rules.specs.WellFormed.{LowerRows};
+ghost use Rattle.type_rules.specs.Fit.{matches, hasMatch, membersAnswer};
+ghost use Rattle.table.specs.Layout.{rowAddress, workSize};
+ghost use Rattle.table.specs.View.{cell as cellOf, rowIn, rowsIn};
+ghost use Rattle.fit.specs.Told.{tells, ruleTells, bit, Ready, pairFilled, pairsFilled, rowsFilled, FitFilled};
+use sheet_rules::Kind;
+use sheet_rules::Member;
+
+// Whether row a fits row b, as the table tells.
+pub fn fits_in(work: &[u16], a: usize, b: usize) -> bool
+    requires { ⌜ workSize ≤ length (now work) ⌝ }
+    ensures { λ r. ⌜ r ≡ tells (now (work .entry)) a b ⌝ }
+{
+    let at = table::rows::fit_address(a, b);
+    work[at] == 1
+}
+
+// Member x of one row is the match of member y of another.
+fn member_matches(work: &[u16], x: Member, y: Member) -> bool
+    requires { ⌜ workSize ≤ length (now work) ⌝ }
+    ensures { λ r. ⌜ r ≡ matches (tells (now (work .entry))) x y ⌝ }
+{
+    match x {
+        Member::Method {
+            name: n,
+            argument: a,
+            result: r,
+        } => match y {
+            Member::Method {
+                name: m,
+                argument: b,
+                result: s,
+            } => {
+                if n != m {
+                    return false;
+                }
+                if !fits_in(work, table::rows::wide(b), table::rows::wide(a)) {
+                    return false;
+                }
+                fits_in(work, table::rows::wide(r), table::rows::wide(s))
+            }
+            Member::Field { name: _, row: _ } => false,
+        },
+        Member::Field { name: n, row: r } => match y {
+            Member::Method {
+                name: _,
+                argument: _,
+                result: _,
+            } => false,
+            Member::Field { name: m, row: s } => {
+                if n != m {
+                    return false;
+                }
+                r == s
+            }
+        },
+    }
+}
+
+// Some member of row a is the match of y.
+fn has_match(work: &[u16], a: usize, y: Member) -> bool
+    requires { ⌜ (a < 64) × (workSize ≤ length (now work)) × (cellOf (now work) (rowAddress a + 1) ≤ 8) ⌝ }
+    ensures { λ r. ⌜ r ≡ hasMatch (tells (now (work .entry))) ((rowIn (now (work .entry)) a) .members) y ⌝ }
+{
+    let count = table::rows::member_count(work, a);
+    let mut j: usize = 0;
+    while j < count {
+        if member_matches(work, table::rows::member(work, a, j), y) {
+            return true;
+        }
+        j = j + 1;
+    }
+    false
+}
+
+// Each member of row b has its match in row a.
+fn members_fit(work: &[u16], a: usize, b: usize) -> bool
+    requires { ⌜ (a < 64) × (b < 64) × (workSize ≤ length (now work)) × (cellOf (now work) (rowAddress a + 1) ≤ 8) × (cellOf (now work) (rowAddress b + 1) ≤ 8) ⌝ }
+    ensures { λ r. ⌜ r ≡ isYes (membersAnswer (tells (now (work .entry))) ((rowIn (now (work .entry)) a) .members) ((rowIn (now (work .entry)) b) .members)) ⌝ }
+{
+    let count = table::rows::member_count(work, b);
+    let mut j: usize = 0;
+    while j < count {
+        if !has_match(work, a, table::rows::member(work, b, j)) {
+            return false;
+        }
+        j = j + 1;
+    }
+    true
+}
+
+// Row a fits row b, by the table's word on the rows that their members mention: kinds first, then members.
+fn row_fits(work: &[u16], a: usize, b: usize) -> bool
+    requires { ⌜ (a < 64) × (b < 64) × (workSize ≤ length (now work)) × (cellOf (now work) (rowAddress a + 1) ≤ 8) × (cellOf (now work) (rowAddress b + 1) ≤ 8) ⌝ }
+    ensures { λ r. ⌜ r ≡ ruleTells (now (work .entry)) a b ⌝ }
+{
+    let k = table::rows::row_kind(work, a);
+    match k {
+        Kind::Pure => members_fit(work, a, b),
+        Kind::Resource => {
+            let l = table::rows::row_kind(work, b);
+            match l {
+                Kind::Pure => false,
+                Kind::Resource => members_fit(work, a, b),
+            }
+        }
+    }
+}
+
+// A cell's number: 1 for fits, 0 for not.
+fn bit_of(b: bool) -> u16
+    ensures { λ r. ⌜ r ≡ bit b ⌝ }
+{
+    if b {
+        return 1;
+    }
+    0
+}
+
+// Fills the cells (m, k) and (k, m).
+fn fill_pair(work: &mut [u16], m: usize, k: usize)
+    requires { ⌜ (k ≤ m) × Ready (m + 1) (now work) ⌝ }
+    ensures { λ r. ⌜ now (work .exit) ≡ pairFilled (now (work .entry)) m k ⌝ }
+{
+    let there = row_fits(work, m, k);
+    let back = row_fits(work, k, m);
+    table::put(work, table::rows::fit_address(m, k), bit_of(there));
+    table::put(work, table::rows::fit_address(k, m), bit_of(back));
+}
+
+// Fills the cells of row m with itself and the rows below it.
+fn fill_row(work: &mut [u16], m: usize)
+    requires { ⌜ Ready (m + 1) (now work) ⌝ }
+    ensures { λ r. ⌜ now (work .exit) ≡ pairsFilled (now (work .entry)) m (m + 1) ⌝ }
+{
+    let mut k: usize = 0;
+    while k <= m {
+        fill_pair(work, m, k);
+        k = k + 1;
+    }
+}
+
+// Fills the cells of the rows that the buffer holds.
+pub fn fill(work: &mut [u16], rows: usize)
+    requires { ⌜ Ready rows (now work) × LowerRows (rowsIn (now work) rows) ⌝ }
+    ensures { λ r. ⌜ FitFilled rows (now (work .entry)) (now (work .exit)) ⌝ }
+{
+    let mut m: usize = 0;
+    while m < rows {
+        fill_row(work, m);
+        m = m + 1;
+    }
+}
