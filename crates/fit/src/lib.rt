@@ -11,6 +11,7 @@ ghost use Rattle.table.specs.View.{cell as cellOf, rowIn, rowsIn};
 ghost use Rattle.fit.specs.Told.{tells, ruleTells, bit, Ready, pairFilled, pairsFilled, rowsFilled, FitFilled};
 use sheet_rules::Kind;
 use sheet_rules::Member;
+use table::rows::wide;
 
 // Whether row a fits row b, as the table tells.
 pub fn fits_in(work: &[u16], a: usize, b: usize) -> bool
@@ -40,19 +41,15 @@ fn member_matches(work: &[u16], x: Member, y: Member) -> bool
                 if n != m {
                     return false;
                 }
-                if !fits_in(work, table::rows::wide(b), table::rows::wide(a)) {
+                if !fits_in(work, wide(b), wide(a)) {
                     return false;
                 }
-                fits_in(work, table::rows::wide(r), table::rows::wide(s))
+                fits_in(work, wide(r), wide(s))
             }
-            Member::Field { name: _, row: _ } => false,
+            Member::Field { .. } => false,
         },
         Member::Field { name: n, row: r } => match y {
-            Member::Method {
-                name: _,
-                argument: _,
-                result: _,
-            } => false,
+            Member::Method { .. } => false,
             Member::Field { name: m, row: s } => {
                 if n != m {
                     return false;
