@@ -2,13 +2,16 @@
 use Prim.Native.Nat.{ℕ, zero, suc, _+_, _≤_, _<_}
 use native.Mathlib.Omega.{arith}
 use native.Mathlib.Numerals.{add-one}
-use mathlib.Core.Path.{_≡_, refl, sym, ap, ap₂, _∙_}
+use native.Mathlib.Decide.{decLe}
+use mathlib.Core.Path.{_≡_, refl, sym, ap, ap₂, _∙_, subst}
 use mathlib.Core.Bool.{Bool, true, false, cond, _&&_, _||_}
 use mathlib.Core.List.{List, [], _∷_}
-use lib.Dec.{eqb}
+use lib.Dec.{eqb, ltb}
 use lib.ListN.{length, getD, drop, drop-of-length-le}
 use lib.Seq.{drop-cons}
-use borrow.Author.Tests.{eq-eqb, ne-eqb}
+use borrow.Author.Tests.{eq-eqb, ne-eqb, lt-ltb, le-ltb}
+use Rattle.lists.proofs.InLaws.{in-getD}
+use Rattle.lists.proofs.Tests.{T→true, true→T}
 use Rattle.sheet_rules.specs.declared.Kind.{Kind}
 use Rattle.sheet_rules.specs.declared.Kind.the-variants.{Pure, Resource}
 use Rattle.sheet_rules.specs.declared.Member.{Member}
@@ -19,9 +22,11 @@ use Rattle.sheet_rules.specs.Answers.{isYes}
 use Rattle.sheet_rules.specs.Sheet.{Row, noMember}
 use Rattle.sheet_rules.specs.RowLines.{nameOf}
 use Rattle.type_rules.specs.Fit.{kindFits, matches, hasMatch, membersAnswer, rowAnswer}
+use Rattle.type_rules.proofs.FitLaws.{hasMatch-from}
 use Rattle.table.specs.Layout.{rowAddress}
 use Rattle.table.specs.View.{cell, memberIn, rowIn}
 use Rattle.table.proofs.RowLaws.{members-length, members-getD}
+use Rattle.fit.specs.Told.{tells, NoMatch, FirstMatch}
 
 -- two members: each exit of member_matches
 
@@ -65,24 +70,73 @@ from w i j h =
 past : (w : List ℕ) (i j : ℕ) → cell w (rowAddress i + 1) ≤ j → drop j ((rowIn w i) .members) ≡ []
 past w i j h = drop-of-length-le ((rowIn w i) .members) {i = j} (let e : length ((rowIn w i) .members) ≡ cell w (rowAddress i + 1) = members-length w i in omega arith)
 
--- the search for y's match: found, one more, none
+-- the search from a place on: nothing yet, one more, found, nowhere
 
-module _ (f : ℕ → ℕ → Bool) (w : List ℕ) (i : ℕ) (y : Member) (j : ℕ) where
-  searched : j < cell w (rowAddress i + 1)
-      → hasMatch f (drop j ((rowIn w i) .members)) y ≡ (matches f (memberIn w i j) y || hasMatch f (drop (j + 1) ((rowIn w i) .members)) y)
+module _ (w : List ℕ) (i : ℕ) (y : Member) (from : ℕ) where
+  pub search-begin : NoMatch w i y from from
+  search-begin k p q = absurd (omega arith)
+
+  pub search-on : (j : ℕ) → NoMatch w i y from j → matches (tells w) (memberIn w i j) y ≡ false → NoMatch w i y from (j + 1)
+  search-on j m e k p q = go (decLe (suc k) j)
+    where
+      go : Dec (suc k ≤ j) → matches (tells w) (memberIn w i k) y ≡ false
+      go (yes l) = m k p l
+      go (no l) = let d : j ≡ k = omega arith in subst (λ (x : ℕ). matches (tells w) (memberIn w i x) y ≡ false) d e
+
+  pub search-found : (to j : ℕ) → NoMatch w i y from j → j < to → matches (tells w) (memberIn w i j) y ≡ true → FirstMatch w i y from to j
+  search-found to j m h e = record { within = omega arith; before = m; here = λ l. e }
+
+  pub search-end : (to j : ℕ) → NoMatch w i y from j → to ≤ j → FirstMatch w i y from to to
+  search-end to j m h = record { within = omega arith; before = λ k p q. m k p (omega arith); here = λ l. absurd (omega arith) }
+
+-- a place tells whether row i has y's match: where it is, or how many members there are
+
+module _ (f : ℕ → ℕ → Bool) (w : List ℕ) (i : ℕ) (y : Member) where
+  pub place-here : (j : ℕ) → j < cell w (rowAddress i + 1) → matches f (memberIn w i j) y ≡ true
+      → ltb j (cell w (rowAddress i + 1)) ≡ hasMatch f ((rowIn w i) .members) y
+  place-here j h e =
+      lt-ltb j (cell w (rowAddress i + 1)) h
+      ∙ sym (T→true (hasMatch f ((rowIn w i) .members) y)
+      (hasMatch-from f ((rowIn w i) .members) y
+      (in-getD ((rowIn w i) .members) j noMember (let l : length ((rowIn w i) .members) ≡ cell w (rowAddress i + 1) = members-length w i in omega arith))
+      (true→T (matches f (getD ((rowIn w i) .members) j noMember) y) (ap (λ (x : Member). matches f x y) (members-getD w i j h) ∙ e))))
+
+  -- no match among the last d members, from j on
+  none-from : (d j : ℕ) → d + j ≡ cell w (rowAddress i + 1)
+      → ((k : ℕ) → k < cell w (rowAddress i + 1) → matches f (memberIn w i k) y ≡ false) → hasMatch f (drop j ((rowIn w i) .members)) y ≡ false
   unfolding hasMatch
-  searched h = ap (λ (xs : List Member). hasMatch f xs y) (from w i j h)
+  none-from zero j e h = ap (λ (xs : List Member). hasMatch f xs y) (past w i j (omega arith))
+  none-from (suc d) j e h =
+      ap (λ (xs : List Member). hasMatch f xs y) (from w i j (omega arith))
+      ∙ ap (λ (b : Bool). b || hasMatch f (drop (j + 1) ((rowIn w i) .members)) y) (h j (omega arith))
+      ∙ none-from d (j + 1) (omega arith) h
 
-  pub search-found : j < cell w (rowAddress i + 1) → matches f (memberIn w i j) y ≡ true → hasMatch f (drop j ((rowIn w i) .members)) y ≡ true
-  search-found h e = searched h ∙ ap (λ (b : Bool). b || hasMatch f (drop (j + 1) ((rowIn w i) .members)) y) e
+  pub place-none : ((k : ℕ) → k < cell w (rowAddress i + 1) → matches f (memberIn w i k) y ≡ false)
+      → ltb (cell w (rowAddress i + 1)) (cell w (rowAddress i + 1)) ≡ hasMatch f ((rowIn w i) .members) y
+  place-none h =
+      le-ltb (cell w (rowAddress i + 1)) (cell w (rowAddress i + 1)) (omega arith)
+      ∙ sym (none-from (cell w (rowAddress i + 1)) 0 (omega arith) h)
 
-  pub search-on : j < cell w (rowAddress i + 1) → matches f (memberIn w i j) y ≡ false
-      → hasMatch f (drop j ((rowIn w i) .members)) y ≡ hasMatch f (drop (j + 1) ((rowIn w i) .members)) y
-  search-on h e = searched h ∙ ap (λ (b : Bool). b || hasMatch f (drop (j + 1) ((rowIn w i) .members)) y) e
+-- the two searches of place_of, as the one place that it gives
 
-  pub search-none : cell w (rowAddress i + 1) ≤ j → hasMatch f (drop j ((rowIn w i) .members)) y ≡ false
-  unfolding hasMatch
-  search-none h = ap (λ (xs : List Member). hasMatch f xs y) (past w i j h)
+module _ (w : List ℕ) (i : ℕ) (y : Member) (start count r : ℕ) (c : count ≡ cell w (rowAddress i + 1)) (s : start ≤ count) where
+  pub found-after : FirstMatch w i y start count r → r < count
+      → ltb r (cell w (rowAddress i + 1)) ≡ hasMatch (tells w) ((rowIn w i) .members) y
+  found-after m h = place-here (tells w) w i y r (omega arith) (m .here h)
+
+  pub found-before : FirstMatch w i y 0 start r → r < start
+      → ltb r (cell w (rowAddress i + 1)) ≡ hasMatch (tells w) ((rowIn w i) .members) y
+  found-before m h = place-here (tells w) w i y r (omega arith) (m .here h)
+
+pub found-nowhere : (w : List ℕ) (i : ℕ) (y : Member) (start count r q : ℕ) → count ≡ cell w (rowAddress i + 1)
+    → FirstMatch w i y start count r → count ≤ r → FirstMatch w i y 0 start q → start ≤ q
+    → ltb count (cell w (rowAddress i + 1)) ≡ hasMatch (tells w) ((rowIn w i) .members) y
+found-nowhere w i y start count r q c m h m′ h′ =
+    ap (λ (n : ℕ). ltb n (cell w (rowAddress i + 1))) c ∙ place-none (tells w) w i y (λ k l. each k l (decLe (suc k) start))
+  where
+    each : (k : ℕ) → k < cell w (rowAddress i + 1) → Dec (suc k ≤ start) → matches (tells w) (memberIn w i k) y ≡ false
+    each k l (yes p) = m′ .before k (omega arith) (omega arith)
+    each k l (no p) = m .before k (omega arith) (omega arith)
 
 -- the walk along row i's members: one without a match, one more, the end
 

@@ -5,11 +5,12 @@ use mathlib.Core.Bool.{Bool, true, false}
 use mathlib.Core.List.{List}
 use lib.Dec.{eqb}
 use lib.ListN.{length, set}
+use Rattle.sheet_rules.specs.declared.Member.{Member}
 use Rattle.sheet_rules.specs.Answers.{isYes}
 use Rattle.sheet_rules.specs.Sheet.{Row}
-use Rattle.type_rules.specs.Fit.{rowAnswer, fits}
+use Rattle.type_rules.specs.Fit.{matches, rowAnswer, fits}
 use Rattle.table.specs.Layout.{rowAddress, fitAddress, tableEnd, slotRowAddress, workSize}
-use Rattle.table.specs.View.{cell, rowIn, rowsIn}
+use Rattle.table.specs.View.{cell, memberIn, rowIn, rowsIn}
 use Rattle.table.specs.Only.{Only}
 
 -- a cell is 1 for fits and 0 for not
@@ -20,6 +21,16 @@ bit false = 0
 -- the table's word on row a fitting row b
 abbrev pub tells : List ℕ → ℕ → ℕ → Bool
 tells w a b = eqb (cell w (fitAddress a b)) 1
+
+-- none of row i's members from one place on, up to another, is the match of y
+abbrev pub NoMatch : List ℕ → ℕ → Member → ℕ → ℕ → Type 0
+NoMatch w i y from to = (k : ℕ) → from ≤ k → k < to → matches (tells w) (memberIn w i k) y ≡ false
+
+-- r is the first of row i's members from one place on, up to another, that is the match of y; the latter if there is none
+pub record FirstMatch (w : List ℕ) (i : ℕ) (y : Member) (from to r : ℕ) : Type 0 where
+  pub within : r ≤ to
+  pub before : NoMatch w i y from r
+  pub here : r < to → matches (tells w) (memberIn w i r) y ≡ true
 
 -- the rule's word, where the table's is taken for the rows that the members mention
 abbrev pub ruleTells : List ℕ → ℕ → ℕ → Bool

@@ -2,13 +2,14 @@
 ghost use mathlib.Core.Path.{_≡_};
 ghost use mathlib.Core.List.{List};
 ghost use Prim.Native.Nat.{ℕ, suc, _≤_, _<_, _+_};
+ghost use lib.Dec.{ltb};
 ghost use lib.ListN.{length};
 ghost use Rattle.sheet_rules.specs.Answers.{isYes};
 ghost use Rattle.sheet_rules.specs.WellFormed.{LowerRows};
 ghost use Rattle.type_rules.specs.Fit.{matches, hasMatch, membersAnswer};
 ghost use Rattle.table.specs.Layout.{rowAddress, workSize};
 ghost use Rattle.table.specs.View.{cell as cellOf, rowIn, rowsIn};
-ghost use Rattle.fit.specs.Told.{tells, ruleTells, bit, Ready, pairFilled, pairsFilled, rowsFilled, FitFilled};
+ghost use Rattle.fit.specs.Told.{tells, FirstMatch, ruleTells, bit, Ready, pairFilled, pairsFilled, rowsFilled, FitFilled};
 use sheet_rules::Kind;
 use sheet_rules::Member;
 use table::rows::wide;
@@ -60,20 +61,37 @@ fn member_matches(work: &[u16], x: Member, y: Member) -> bool
     }
 }
 
-// Some member of row a is the match of y.
-fn has_match(work: &[u16], a: usize, y: Member) -> bool
-    requires { ⌜ (a < 64) × (workSize ≤ length (now work)) × (cellOf (now work) (rowAddress a + 1) ≤ 8) ⌝ }
-    ensures { λ r. ⌜ r ≡ hasMatch (tells (now (work .entry))) ((rowIn (now (work .entry)) a) .members) y ⌝ }
+// The first member of row a that is the match of y, from a place on and up to another; the latter if there is none.
+fn match_between(work: &[u16], a: usize, y: Member, from: usize, to: usize) -> usize
+    requires { ⌜ (a < 64) × (from ≤ to) × (to ≤ 8) × (workSize ≤ length (now work)) ⌝ }
+    ensures { λ r. ⌜ FirstMatch (now (work .entry)) a y from to r ⌝ }
+{
+    let mut i = from;
+    while i < to {
+        if member_matches(work, table::rows::member(work, a, i), y) {
+            return i;
+        }
+        i = i + 1;
+    }
+    to
+}
+
+// A member of row a that is the match of y, or the number of its members. The search begins at a place, and goes round to it:
+// as names ascend, the place after the last match is near to the next one.
+fn place_of(work: &[u16], a: usize, y: Member, start: usize) -> usize
+    requires { ⌜ (a < 64) × (workSize ≤ length (now work)) × (cellOf (now work) (rowAddress a + 1) ≤ 8) × (start ≤ cellOf (now work) (rowAddress a + 1)) ⌝ }
+    ensures { λ r. ⌜ ltb r (cellOf (now (work .entry)) (rowAddress a + 1)) ≡ hasMatch (tells (now (work .entry))) ((rowIn (now (work .entry)) a) .members) y ⌝ }
 {
     let count = table::rows::member_count(work, a);
-    let mut j: usize = 0;
-    while j < count {
-        if member_matches(work, table::rows::member(work, a, j), y) {
-            return true;
-        }
-        j = j + 1;
+    let after = match_between(work, a, y, start, count);
+    if after < count {
+        return after;
     }
-    false
+    let before = match_between(work, a, y, 0, start);
+    if before < start {
+        return before;
+    }
+    count
 }
 
 // Each member of row b has its match in row a.
@@ -81,12 +99,16 @@ fn members_fit(work: &[u16], a: usize, b: usize) -> bool
     requires { ⌜ (a < 64) × (b < 64) × (workSize ≤ length (now work)) × (cellOf (now work) (rowAddress a + 1) ≤ 8) × (cellOf (now work) (rowAddress b + 1) ≤ 8) ⌝ }
     ensures { λ r. ⌜ r ≡ isYes (membersAnswer (tells (now (work .entry))) ((rowIn (now (work .entry)) a) .members) ((rowIn (now (work .entry)) b) .members)) ⌝ }
 {
+    let there = table::rows::member_count(work, a);
     let count = table::rows::member_count(work, b);
+    let mut start: usize = 0;
     let mut j: usize = 0;
     while j < count {
-        if !has_match(work, a, table::rows::member(work, b, j)) {
+        let place = place_of(work, a, table::rows::member(work, b, j), start);
+        if there <= place {
             return false;
         }
+        start = place + 1;
         j = j + 1;
     }
     true
