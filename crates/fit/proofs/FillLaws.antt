@@ -1,20 +1,20 @@
 -- Filling the fit table in ascending order of the larger row settles each cell: what a cell is computed from is settled
 -- before it. Assumes nothing.
-use Prim.Native.Nat.{ℕ, zero, suc, _+_, _*_, _≤_, _<_, min}
+use Prim.Native.Nat.{ℕ, zero, suc, _+_, _≤_, _<_}
 use native.Mathlib.Omega.{arith}
 use native.Mathlib.Numerals.{add-one}
 use native.Mathlib.Decide.{decLe, ℕ-discrete}
 use mathlib.Core.Path.{_≡_, refl, sym, ap, ap₂, _∙_, subst}
 use mathlib.Core.Bool.{Bool, true, false}
-use mathlib.Core.List.{List, [], _∷_}
+use mathlib.Core.List.{List}
 use lib.Dec.{eqb}
 use lib.ListN.{length, getD, set, length-set}
 use lib.Seq.{getD-set-same, getD-set-other}
 use Rattle.lists.proofs.TabLaws.{getD-tab}
 use Rattle.sheet_rules.specs.Answers.{isYes}
 use Rattle.sheet_rules.specs.Sheet.{Row, noRow, rowAt}
-use Rattle.sheet_rules.specs.WellFormed.{Mentions, LowerRows}
-use Rattle.type_rules.specs.Fit.{rowAnswer, fitAnswer, fits}
+use Rattle.sheet_rules.specs.WellFormed.{LowerRows}
+use Rattle.type_rules.specs.Fit.{rowAnswer, fits}
 use Rattle.type_rules.proofs.FitLaws.{Agree, row-agree, fit-rule}
 use Rattle.table.specs.Layout.{rowAddress, fitAddress, tableEnd, slotRowAddress, workSize}
 use Rattle.table.specs.View.{cell, rowIn, rowsIn}

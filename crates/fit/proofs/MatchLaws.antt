@@ -3,7 +3,7 @@ use Prim.Native.Nat.{ℕ, zero, suc, _+_, _≤_, _<_}
 use native.Mathlib.Omega.{arith}
 use native.Mathlib.Numerals.{add-one}
 use native.Mathlib.Decide.{decLe}
-use mathlib.Core.Path.{_≡_, refl, sym, ap, ap₂, _∙_, subst}
+use mathlib.Core.Path.{_≡_, sym, ap, ap₂, _∙_, subst}
 use mathlib.Core.Bool.{Bool, true, false, cond, _&&_, _||_}
 use mathlib.Core.List.{List, [], _∷_}
 use lib.Dec.{eqb, ltb}
@@ -16,8 +16,7 @@ use Rattle.sheet_rules.specs.declared.Kind.{Kind}
 use Rattle.sheet_rules.specs.declared.Kind.the-variants.{Pure, Resource}
 use Rattle.sheet_rules.specs.declared.Member.{Member}
 use Rattle.sheet_rules.specs.declared.Member.the-variants.{Method, Field}
-use Rattle.sheet_rules.specs.declared.FitAnswer.{FitAnswer}
-use Rattle.sheet_rules.specs.declared.FitAnswer.the-variants.{Yes, WrongKind, Unmet}
+use Rattle.sheet_rules.specs.declared.FitAnswer.the-variants.{WrongKind, Unmet}
 use Rattle.sheet_rules.specs.Answers.{isYes}
 use Rattle.sheet_rules.specs.Sheet.{Row, noMember}
 use Rattle.sheet_rules.specs.RowLines.{nameOf}

@@ -7,7 +7,6 @@ use lib.Dec.{eqb}
 use lib.ListN.{length, set}
 use Rattle.sheet_rules.specs.declared.Member.{Member}
 use Rattle.sheet_rules.specs.Answers.{isYes}
-use Rattle.sheet_rules.specs.Sheet.{Row}
 use Rattle.type_rules.specs.Fit.{matches, rowAnswer, fits}
 use Rattle.table.specs.Layout.{rowAddress, fitAddress, tableEnd, slotRowAddress, workSize}
 use Rattle.table.specs.View.{cell, memberIn, rowIn, rowsIn}

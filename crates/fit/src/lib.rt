@@ -1,7 +1,6 @@
 // The fit table: whether row a fits row b, for every two rows of the sheet in the work buffer, each pair settled once.
 ghost use mathlib.Core.Path.{_≡_};
-ghost use mathlib.Core.List.{List};
-ghost use Prim.Native.Nat.{ℕ, suc, _≤_, _<_, _+_};
+ghost use Prim.Native.Nat.{_≤_, _<_, _+_};
 ghost use lib.Dec.{ltb};
 ghost use lib.ListN.{length};
 ghost use Rattle.sheet_rules.specs.Answers.{isYes};

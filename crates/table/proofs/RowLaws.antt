@@ -1,18 +1,15 @@
 -- What the numbers of a row's block tell, at the places where the code reads them: a law for each exit. Assumes nothing.
-use Prim.Native.Nat.{ℕ, zero, suc, _+_, _*_, _<_, min}
+use Prim.Native.Nat.{ℕ, zero, suc, _+_, _*_, _<_}
 use native.Mathlib.Omega.{arith}
 use mathlib.Core.Path.{_≡_, refl, sym, ap, _∙_}
 use mathlib.Core.Bool.{Bool, cond}
 use mathlib.Core.List.{List}
-use lib.Dec.{eqb}
 use lib.ListN.{length, getD}
 use borrow.Author.Tests.{eq-eqb, ne-eqb}
 use Rattle.lists.proofs.TabLaws.{length-tab, getD-tab}
-use Rattle.sheet_rules.specs.declared.Kind.{Kind}
 use Rattle.sheet_rules.specs.declared.Kind.the-variants.{Pure, Resource}
-use Rattle.sheet_rules.specs.declared.Member.{Member}
 use Rattle.sheet_rules.specs.declared.Member.the-variants.{Method, Field}
-use Rattle.sheet_rules.specs.Sheet.{Row, noMember}
+use Rattle.sheet_rules.specs.Sheet.{noMember}
 use Rattle.sheet_rules.specs.RowLines.{kindOf}
 use Rattle.table.specs.Layout.{rowAddress, memberAddress}
 use Rattle.table.specs.View.{cell, memberFrom, memberIn, rowIn}
