@@ -7,7 +7,7 @@ ghost use Rattle.sheet_rules.specs.Answers.{isYes};
 ghost use Rattle.sheet_rules.specs.WellFormed.{LowerRows};
 ghost use Rattle.type_rules.specs.Fit.{matches, hasMatch, membersAnswer};
 ghost use Rattle.table.specs.Layout.{rowAddress, workSize};
-ghost use Rattle.table.specs.View.{cell as cellOf, rowIn, rowsIn};
+ghost use Rattle.table.specs.View.{cell as cellOf, memberIn, rowIn, rowsIn};
 ghost use Rattle.fit.specs.Told.{tells, FirstMatch, ruleTells, bit, Ready, pairFilled, pairsFilled, rowsFilled, FitFilled};
 use sheet_rules::Kind;
 use sheet_rules::Member;
@@ -60,14 +60,19 @@ fn member_matches(work: &[u16], x: Member, y: Member) -> bool
     }
 }
 
-// The first member of row a that is the match of y, from a place on and up to another; the latter if there is none.
-fn match_between(work: &[u16], a: usize, y: Member, from: usize, to: usize) -> usize
-    requires { ⌜ (a < 64) × (from ≤ to) × (to ≤ 8) × (workSize ≤ length (now work)) ⌝ }
-    ensures { λ r. ⌜ FirstMatch (now (work .entry)) a y from to r ⌝ }
+// The first member of row a that is the match of member j of row b, from a place on and up to another; the latter if there is
+// none.
+fn match_between(work: &[u16], a: usize, b: usize, j: usize, from: usize, to: usize) -> usize
+    requires { ⌜ (a < 64) × (b < 64) × (j < 8) × (from ≤ to) × (to ≤ 8) × (workSize ≤ length (now work)) ⌝ }
+    ensures { λ r. ⌜ FirstMatch (now (work .entry)) a (memberIn (now (work .entry)) b j) from to r ⌝ }
 {
     let mut i = from;
     while i < to {
-        if member_matches(work, table::rows::member(work, a, i), y) {
+        if member_matches(
+            work,
+            table::rows::member(work, a, i),
+            table::rows::member(work, b, j),
+        ) {
             return i;
         }
         i = i + 1;
@@ -75,18 +80,18 @@ fn match_between(work: &[u16], a: usize, y: Member, from: usize, to: usize) -> u
     to
 }
 
-// A member of row a that is the match of y, or the number of its members. The search begins at a place, and goes round to it:
-// as names ascend, the place after the last match is near to the next one.
-fn place_of(work: &[u16], a: usize, y: Member, start: usize) -> usize
-    requires { ⌜ (a < 64) × (workSize ≤ length (now work)) × (cellOf (now work) (rowAddress a + 1) ≤ 8) × (start ≤ cellOf (now work) (rowAddress a + 1)) ⌝ }
-    ensures { λ r. ⌜ ltb r (cellOf (now (work .entry)) (rowAddress a + 1)) ≡ hasMatch (tells (now (work .entry))) ((rowIn (now (work .entry)) a) .members) y ⌝ }
+// A member of row a that is the match of member j of row b, or the number of a's members. The search begins at a place, and
+// goes round to it: as names ascend, the place after the last match is near to the next one.
+fn place_of(work: &[u16], a: usize, b: usize, j: usize, start: usize) -> usize
+    requires { ⌜ (a < 64) × (b < 64) × (j < 8) × (workSize ≤ length (now work)) × (cellOf (now work) (rowAddress a + 1) ≤ 8) × (start ≤ cellOf (now work) (rowAddress a + 1)) ⌝ }
+    ensures { λ r. ⌜ ltb r (cellOf (now (work .entry)) (rowAddress a + 1)) ≡ hasMatch (tells (now (work .entry))) ((rowIn (now (work .entry)) a) .members) (memberIn (now (work .entry)) b j) ⌝ }
 {
     let count = table::rows::member_count(work, a);
-    let after = match_between(work, a, y, start, count);
+    let after = match_between(work, a, b, j, start, count);
     if after < count {
         return after;
     }
-    let before = match_between(work, a, y, 0, start);
+    let before = match_between(work, a, b, j, 0, start);
     if before < start {
         return before;
     }
@@ -103,7 +108,7 @@ fn members_fit(work: &[u16], a: usize, b: usize) -> bool
     let mut start: usize = 0;
     let mut j: usize = 0;
     while j < count {
-        let place = place_of(work, a, table::rows::member(work, b, j), start);
+        let place = place_of(work, a, b, j, start);
         if there <= place {
             return false;
         }

@@ -1,11 +1,10 @@
 use Prim.Native.Nat.{_+_, _-_, _≤_}
 use native.Mathlib.Omega.{arith}
-use mathlib.Core.Path.{_≡_, refl, sym, ap, _∙_}
+use mathlib.Core.Path.{_≡_, refl, sym, _∙_}
 use borrow.Author.Tests.{lt-ltb, le-ltb}
 use lib.ListN.{drop}
-use Rattle.sheet_rules.specs.declared.Member.{Member}
 use Rattle.sheet_rules.specs.Answers.{isYes}
-use Rattle.type_rules.specs.Fit.{hasMatch, membersAnswer}
+use Rattle.type_rules.specs.Fit.{membersAnswer}
 use Rattle.table.specs.Layout.{rowAddress}
 use Rattle.table.specs.View.{cell, rowIn}
 use Rattle.fit.specs.Told.{tells}
@@ -15,7 +14,6 @@ use Rattle.fit.proofs.members_fit.Tie as tie
 use Rattle.fit.proofs.members_fit.Reads as reads
 use Rattle.fit.proofs.members_fit.Lts as lts
 use Rattle.fit.proofs.place_of.Reads as place-of-reads
-use Rattle.table.proofs.rows.member.Reads as member-reads
 use Rattle.table.proofs.rows.member_count.Reads as member-count-reads
 
 abbrev Inv-loop : tie.InvT-loop
@@ -39,27 +37,25 @@ member-count-requires-2 c κs = (c .before .before .pre .1, c .before .before .p
 loop-holds : tie.Need-loop-holds Inv-loop μ-loop
 loop-holds c = (omega arith, omega arith, refl)
 
--- src/lib.rt:107:39
-member-requires : tie.Need-member-requires Inv-loop μ-loop
-member-requires c κs = (c .before .before .before .before .before .pre .1, (let e = c .before .before .member-count2 .ensures in let l = c .before .before .before .before .before .pre .4 in let k = c .loop-test .taken in omega arith), c .before .before .before .before .before .pre .2)
-
 -- src/lib.rt:107:13
 place-of-requires : tie.Need-place-of-requires Inv-loop μ-loop
 place-of-requires c κs = (
-  c .before .before .before .before .before .before .pre .0,
-  c .before .before .before .before .before .before .pre .2,
-  c .before .before .before .before .before .before .pre .3,
-  (let e = c .before .before .before .before .member-count .ensures in let h = c .before .before .loop .inv .1 in omega arith),
+  c .before .before .before .before .before .pre .0,
+  c .before .before .before .before .before .pre .1,
+  (let e = c .before .before .member-count2 .ensures in let l = c .before .before .before .before .before .pre .4 in let k = c .loop-test .taken in omega arith),
+  c .before .before .before .before .before .pre .2,
+  c .before .before .before .before .before .pre .3,
+  (let e = c .before .before .before .member-count .ensures in let h = c .before .loop .inv .1 in omega arith),
 )
 
 -- src/lib.rt:109:13
 returns : tie.Need-returns Inv-loop μ-loop
 returns c =
-    sym (walk-unmet (tells (c .before .before .before .before .before .before .before .before .args .work .now)) ((rowIn (c .before .before .before .before .before .before .before .before .args .work .now) (c .before .before .before .before .before .before .before .before .args .a)) .members) (c .before .before .before .before .before .before .before .before .args .work .now) (c .before .before .before .before .before .before .before .before .args .b) (c .before .before .before .before .loop .j)
-    (let e = c .before .before .before .before .before .member-count2 .ensures in let k = c .before .before .before .loop-test .taken in omega arith)
-    (sym (c .before .place-of .ensures ∙ ap (λ (y : Member). hasMatch (tells (c .before .before .before .before .before .before .before .before .args .work .now)) ((rowIn (c .before .before .before .before .before .before .before .before .args .work .now) (c .before .before .before .before .before .before .before .before .args .a)) .members) y) (c .before .before .member .ensures))
-    ∙ le-ltb (c .before .place-of .result) (cell (c .before .before .before .before .before .before .before .before .args .work .now) (rowAddress (c .before .before .before .before .before .before .before .before .args .a) + 1)) (let e = c .before .before .before .before .before .before .member-count .ensures in let k = c .if1 .taken in omega arith)))
-    ∙ c .before .before .before .before .loop .inv .2
+    sym (walk-unmet (tells (c .before .before .before .before .before .before .before .args .work .now)) ((rowIn (c .before .before .before .before .before .before .before .args .work .now) (c .before .before .before .before .before .before .before .args .a)) .members) (c .before .before .before .before .before .before .before .args .work .now) (c .before .before .before .before .before .before .before .args .b) (c .before .before .before .loop .j)
+    (let e = c .before .before .before .before .member-count2 .ensures in let k = c .before .before .loop-test .taken in omega arith)
+    (sym (c .before .place-of .ensures)
+    ∙ le-ltb (c .before .place-of .result) (cell (c .before .before .before .before .before .before .before .args .work .now) (rowAddress (c .before .before .before .before .before .before .before .args .a) + 1)) (let e = c .before .before .before .before .before .member-count .ensures in let k = c .if1 .taken in omega arith)))
+    ∙ c .before .before .before .loop .inv .2
 
 -- src/lib.rt:111:17
 add-start : tie.Need-add-start Inv-loop μ-loop
@@ -78,11 +74,11 @@ loop-again : tie.Need-loop-again Inv-loop μ-loop
 loop-again c = (
   omega arith,
   omega arith,
-  sym (walk-on (tells (c .before .before .before .before .before .before .before .before .args .work .now)) ((rowIn (c .before .before .before .before .before .before .before .before .args .work .now) (c .before .before .before .before .before .before .before .before .args .a)) .members) (c .before .before .before .before .before .before .before .before .args .work .now) (c .before .before .before .before .before .before .before .before .args .b) (c .before .before .before .before .loop .j)
-      (let e = c .before .before .before .before .before .member-count2 .ensures in let k = c .before .before .before .loop-test .taken in omega arith)
-      (sym (c .before .place-of .ensures ∙ ap (λ (y : Member). hasMatch (tells (c .before .before .before .before .before .before .before .before .args .work .now)) ((rowIn (c .before .before .before .before .before .before .before .before .args .work .now) (c .before .before .before .before .before .before .before .before .args .a)) .members) y) (c .before .before .member .ensures))
-      ∙ lt-ltb (c .before .place-of .result) (cell (c .before .before .before .before .before .before .before .before .args .work .now) (rowAddress (c .before .before .before .before .before .before .before .before .args .a) + 1)) (let e = c .before .before .before .before .before .before .member-count .ensures in let k = c .if1 .left in omega arith)))
-      ∙ c .before .before .before .before .loop .inv .2,
+  sym (walk-on (tells (c .before .before .before .before .before .before .before .args .work .now)) ((rowIn (c .before .before .before .before .before .before .before .args .work .now) (c .before .before .before .before .before .before .before .args .a)) .members) (c .before .before .before .before .before .before .before .args .work .now) (c .before .before .before .before .before .before .before .args .b) (c .before .before .before .loop .j)
+      (let e = c .before .before .before .before .member-count2 .ensures in let k = c .before .before .loop-test .taken in omega arith)
+      (sym (c .before .place-of .ensures)
+      ∙ lt-ltb (c .before .place-of .result) (cell (c .before .before .before .before .before .before .before .args .work .now) (rowAddress (c .before .before .before .before .before .before .before .args .a) + 1)) (let e = c .before .before .before .before .before .member-count .ensures in let k = c .if1 .left in omega arith)))
+      ∙ c .before .before .before .loop .inv .2,
 )
 
 -- src/lib.rt:98:1
@@ -101,7 +97,6 @@ members-fit-spec =
     member-count-requires
     member-count-requires-2
     loop-holds
-    member-requires
     place-of-requires
     returns
     add-start
