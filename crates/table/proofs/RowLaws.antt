@@ -1,15 +1,15 @@
 -- What the numbers of a row's block tell, at the places where the code reads them: a law for each exit. Assumes nothing.
-use Prim.Native.Nat.{ℕ, zero, suc, _+_, _*_, _<_, min}
+use Prim.Native.Nat.{ℕ, zero, suc, _+_, _*_, _<_}
 use native.Mathlib.Omega.{arith}
 use mathlib.Core.Path.{_≡_, refl, sym, ap, _∙_}
 use mathlib.Core.Bool.{Bool, cond}
 use mathlib.Core.List.{List}
-use lib.Dec.{eqb}
+use lib.ListN.{length, getD}
 use borrow.Author.Tests.{eq-eqb, ne-eqb}
-use Rattle.sheet_rules.specs.declared.Kind.{Kind}
+use Rattle.lists.proofs.TabLaws.{length-tab, getD-tab}
 use Rattle.sheet_rules.specs.declared.Kind.the-variants.{Pure, Resource}
-use Rattle.sheet_rules.specs.declared.Member.{Member}
 use Rattle.sheet_rules.specs.declared.Member.the-variants.{Method, Field}
+use Rattle.sheet_rules.specs.Sheet.{noMember}
 use Rattle.sheet_rules.specs.RowLines.{kindOf}
 use Rattle.table.specs.Layout.{rowAddress, memberAddress}
 use Rattle.table.specs.View.{cell, memberFrom, memberIn, rowIn}
@@ -58,3 +58,13 @@ module _ (w : List ℕ) (i j : ℕ) (h : i < 64) (k : j < 8) where
     where
       at : ℕ
       at = 16 + 36 * i + (4 + 4 * j)
+
+-- the list of a row's members: how many they are, and which stands where
+
+pub members-length : (w : List ℕ) (i : ℕ) → length ((rowIn w i) .members) ≡ cell w (rowAddress i + 1)
+unfolding rowIn
+members-length w i = length-tab (memberIn w i) (cell w (rowAddress i + 1))
+
+pub members-getD : (w : List ℕ) (i j : ℕ) → j < cell w (rowAddress i + 1) → getD ((rowIn w i) .members) j noMember ≡ memberIn w i j
+unfolding rowIn
+members-getD w i j h = getD-tab (memberIn w i) (cell w (rowAddress i + 1)) j noMember h

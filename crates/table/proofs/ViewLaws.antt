@@ -1,18 +1,16 @@
 -- Laws of Only and of the view: what depends on which numbers of the buffer. Assumes nothing.
-use Prim.Native.Nat.{ℕ, zero, suc, _+_, _*_, _≤_, _<_, min}
+use Prim.Native.Nat.{ℕ, suc, _+_, _≤_, _<_}
 use native.Mathlib.Omega.{arith}
 use native.Mathlib.Decide.{decLe}
-use mathlib.Core.Path.{_≡_, refl, sym, ap, ap₂, _∙_, subst}
-use mathlib.Core.Bool.{Bool, cond}
-use mathlib.Core.List.{List, [], _∷_}
+use mathlib.Core.Path.{_≡_, refl, ap, ap₂, _∙_}
+use mathlib.Core.Bool.{cond}
+use mathlib.Core.List.{List}
 use lib.Dec.{eqb}
-use lib.ListN.{length, getD, set, take, length-set}
+use lib.ListN.{set, take, length-set}
 use lib.Seq.{getD-set-other}
-use Rattle.lists.specs.Tab.{tab}
 use Rattle.lists.proofs.TabLaws.{tab-ext}
-use Rattle.sheet_rules.specs.declared.Kind.{Kind}
 use Rattle.sheet_rules.specs.declared.Member.{Member}
-use Rattle.sheet_rules.specs.Sheet.{Row, Instr, Part, init, body, Form, Sheet}
+use Rattle.sheet_rules.specs.Sheet.{Row, Instr, init, body}
 use Rattle.sheet_rules.specs.RowLines.{kindOf}
 use Rattle.table.specs.Layout.{rowCountAt, formCountAt, mainStartAt, mainCountAt, rowAddress, memberAddress, formAddress, keepAddress, partAddress, instrAddress, tableEnd}
 use Rattle.table.specs.View.{cell, memberFrom, memberIn, membersIn, rowIn, rowsIn, numbersIn, instrFrom, instrIn, instrsIn, partFrom, partIn, keepsIn, partsIn, formIn, formsIn, sheetIn}

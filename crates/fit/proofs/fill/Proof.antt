@@ -1,0 +1,71 @@
+use Prim.Native.Nat.{ℕ, _+_, _-_, _≤_}
+use native.Mathlib.Omega.{arith}
+use mathlib.Core.Path.{_≡_, refl, sym, ap, _∙_, subst}
+use mathlib.Core.List.{List}
+use lib.ListN.{length}
+use Rattle.fit.specs.Told.{Ready, pairsFilled, rowsFilled, FitFilled}
+use Rattle.fit.proofs.FillLaws.{rows-only, ready-kept, rows-next, all-filled}
+use Rattle.fit.proofs.fill.Statement.{statement}
+use Rattle.fit.proofs.fill.Tie as tie
+use Rattle.fit.proofs.fill.Reads as reads
+use Rattle.fit.proofs.fill.Lts as lts
+use Rattle.fit.proofs.fill_row.Reads as fill-row-reads
+
+abbrev Inv-loop : tie.InvT-loop
+Inv-loop work₀ rows m₀ work m = (m ≤ rows) × (work ≡ rowsFilled work₀ m)
+
+abbrev μ-loop : tie.MeasureT-loop
+μ-loop work₀ rows m₀ work m = rows - m
+
+-- src/lib.rt:143:5
+loop-holds : tie.Need-loop-holds Inv-loop μ-loop
+unfolding rowsFilled
+loop-holds c = (omega arith, refl)
+
+-- src/lib.rt:144:9
+fill-row-requires : tie.Need-fill-row-requires Inv-loop μ-loop
+fill-row-requires c κs =
+    subst (λ (v : List ℕ). Ready (c .before .before .loop .m + 1) v) (sym (c .before .before .loop .inv .1))
+    (ready-kept (c .before .before .before .before .args .rows) (c .before .before .loop .m + 1) (c .before .before .before .before .args .work .now) (rowsFilled (c .before .before .before .before .args .work .now) (c .before .before .loop .m)) (omega arith) (c .before .before .before .before .pre .0) (rows-only (c .before .before .before .before .args .work .now) (c .before .before .loop .m)))
+
+-- src/lib.rt:145:13
+add-m : tie.Need-add-m Inv-loop μ-loop
+add-m c = omega arith
+
+-- src/lib.rt:143:5
+loop-less : tie.Need-loop-less Inv-loop μ-loop
+loop-less c = omega arith
+
+-- src/lib.rt:143:5
+loop-again : tie.Need-loop-again Inv-loop μ-loop
+loop-again c = (
+  omega arith,
+  c .before .before .fill-row .ensures
+      ∙ ap (λ (v : List ℕ). pairsFilled v (c .before .before .before .before .before .loop .m) (c .before .before .before .before .before .loop .m + 1)) (c .before .before .before .before .before .loop .inv .1)
+      ∙ rows-next (c .before .before .before .before .before .before .before .args .work .now) (c .before .before .before .before .before .loop .m),
+)
+
+-- src/lib.rt:138:1
+same-length : tie.Need-same-length Inv-loop μ-loop
+same-length c = ap length (c .before .loop .inv .1) ∙ (rows-only (c .before .before .before .args .work .now) (c .before .loop .m)) .size
+
+-- src/lib.rt:138:1
+returns : tie.Need-returns Inv-loop μ-loop
+returns c =
+    subst (λ (v : List ℕ). FitFilled (c .before .before .before .args .rows) (c .before .before .before .args .work .now) v)
+    (sym (c .before .loop .inv .1 ∙ ap (rowsFilled (c .before .before .before .args .work .now)) (omega arith)))
+    (all-filled (c .before .before .before .args .work .now) (c .before .before .before .args .rows) (c .before .before .before .pre .0) (c .before .before .before .pre .1))
+
+pub fill-spec : {M : Type 1} → statement M
+fill-spec =
+    tie.close
+    (tie.spec
+    Inv-loop
+    μ-loop
+    loop-holds
+    fill-row-requires
+    add-m
+    loop-less
+    loop-again
+    same-length
+    returns)

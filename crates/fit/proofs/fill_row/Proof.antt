@@ -1,0 +1,70 @@
+use Prim.Native.Nat.{ℕ, _+_, _-_, _≤_}
+use native.Mathlib.Omega.{arith}
+use mathlib.Core.Path.{_≡_, refl, sym, ap, _∙_, subst}
+use mathlib.Core.List.{List}
+use lib.ListN.{length}
+use Rattle.fit.specs.Told.{Ready, pairFilled, pairsFilled}
+use Rattle.fit.proofs.FillLaws.{pairs-only, ready-kept, pairs-next}
+use Rattle.fit.proofs.fill_row.Statement.{statement}
+use Rattle.fit.proofs.fill_row.Tie as tie
+use Rattle.fit.proofs.fill_row.Reads as reads
+use Rattle.fit.proofs.fill_row.Lts as lts
+use Rattle.fit.proofs.fill_pair.Reads as fill-pair-reads
+
+abbrev Inv-loop : tie.InvT-loop
+Inv-loop work₀ m k₀ work k = (k ≤ m + 1) × (work ≡ pairsFilled work₀ m k)
+
+abbrev μ-loop : tie.MeasureT-loop
+μ-loop work₀ m k₀ work k = m + 1 - k
+
+-- src/lib.rt:131:5
+loop-holds : tie.Need-loop-holds Inv-loop μ-loop
+unfolding pairsFilled
+loop-holds c = (omega arith, refl)
+
+-- src/lib.rt:132:9
+fill-pair-requires : tie.Need-fill-pair-requires Inv-loop μ-loop
+fill-pair-requires c κs = (
+  c .before .loop-test .taken,
+  subst (λ (v : List ℕ). Ready (c .before .before .before .before .args .m + 1) v) (sym (c .before .before .loop .inv .1))
+      (ready-kept (c .before .before .before .before .args .m + 1) (c .before .before .before .before .args .m + 1) (c .before .before .before .before .args .work .now) (pairsFilled (c .before .before .before .before .args .work .now) (c .before .before .before .before .args .m) (c .before .before .loop .k)) (omega arith) (c .before .before .before .before .pre) (pairs-only (c .before .before .before .before .args .work .now) (c .before .before .before .before .args .m) (c .before .before .loop .k))),
+)
+
+-- src/lib.rt:133:13
+add-k : tie.Need-add-k Inv-loop μ-loop
+add-k c = let r = c .before .before .before .before .before .before .before .pre .rows in omega arith
+
+-- src/lib.rt:131:5
+loop-less : tie.Need-loop-less Inv-loop μ-loop
+loop-less c = omega arith
+
+-- src/lib.rt:131:5
+loop-again : tie.Need-loop-again Inv-loop μ-loop
+loop-again c = (
+  omega arith,
+  c .before .before .fill-pair .ensures
+      ∙ ap (λ (v : List ℕ). pairFilled v (c .before .before .before .before .before .before .before .args .m) (c .before .before .before .before .before .loop .k)) (c .before .before .before .before .before .loop .inv .1)
+      ∙ pairs-next (c .before .before .before .before .before .before .before .args .work .now) (c .before .before .before .before .before .before .before .args .m) (c .before .before .before .before .before .loop .k),
+)
+
+-- src/lib.rt:126:1
+same-length : tie.Need-same-length Inv-loop μ-loop
+same-length c = ap length (c .before .loop .inv .1) ∙ (pairs-only (c .before .before .before .args .work .now) (c .before .before .before .args .m) (c .before .loop .k)) .size
+
+-- src/lib.rt:126:1
+returns : tie.Need-returns Inv-loop μ-loop
+returns c = c .before .loop .inv .1 ∙ ap (pairsFilled (c .before .before .before .args .work .now) (c .before .before .before .args .m)) (omega arith)
+
+pub fill-row-spec : {M : Type 1} → statement M
+fill-row-spec =
+    tie.close
+    (tie.spec
+    Inv-loop
+    μ-loop
+    loop-holds
+    fill-pair-requires
+    add-k
+    loop-less
+    loop-again
+    same-length
+    returns)
