@@ -16,6 +16,7 @@ use Rattle.judges.specs.Told.{memberRest, rowTold}
 use Rattle.table.specs.Layout.{rowAddress, memberAddress, workSize}
 use Rattle.table.specs.View.{cell, memberIn, membersIn, rowIn, rowsIn}
 use Rattle.table.specs.Only.{Only}
+use Rattle.read_loop.specs.Items.{ItemRead, ItemsRead}
 use Rattle.line_reader.specs.declared.Progress.{Progress}
 use Rattle.line_reader.specs.Told.{Room, readTold, Advanced}
 
@@ -47,17 +48,14 @@ pub record Kept (i j : ℕ) (k : Key) (ns : Numbers) (next n : ℕ) (w w′ : Li
   pub moves : (at n′ : ℕ) → r ≡ Progress.Moved at n′ → (at ≡ next) × (n′ ≡ n + 1)
 
 -- one member, read
-pub record MemberRead (text : List ℕ) (i j at n : ℕ) (w w′ : List ℕ) (r : Progress) : Type 0 where
-  pub told : readTold text r (memberIn w′ i j) ≡ one (memberLine (rowsIn w i) (headingIn w i) (membersIn w i j)) (linesOf (drop at text)) n
-  pub only : Only (memberAddress i j) (memberAddress i j + 4) w w′
-  pub advanced : Advanced text at r
+abbrev pub MemberRead : List ℕ → (i j at n : ℕ) → (w w′ : List ℕ) → Progress → Type 0
+MemberRead text i j at n w w′ r =
+    ItemRead text (one (memberLine (rowsIn w i) (headingIn w i) (membersIn w i j))) (λ x. memberIn x i j) (memberAddress i j) (memberAddress i j + 4) at n w w′ r
 
 -- all members of a row, read
-pub record MembersRead (text : List ℕ) (i count at n : ℕ) (w w′ : List ℕ) (r : Progress) : Type 0 where
-  pub told : readTold text r (membersIn w′ i count)
-      ≡ many count (λ before. one (memberLine (rowsIn w i) (headingIn w i) before)) [] (linesOf (drop at text)) n
-  pub only : Only (rowAddress i + 4) (rowAddress i + 36) w w′
-  pub advanced : Advanced text at r
+abbrev pub MembersRead : List ℕ → (i count at n : ℕ) → (w w′ : List ℕ) → Progress → Type 0
+MembersRead text i count at n w w′ r =
+    ItemsRead text (λ before. one (memberLine (rowsIn w i) (headingIn w i) before)) (λ x j. memberIn x i j) (rowAddress i + 4) (rowAddress i + 36) count at n w w′ r
 
 -- a row from its heading on: its twin is asked, and its members are read
 unfoldable pub rowRest : List Row → Read Heading → Read Row
@@ -73,13 +71,9 @@ pub record RowKept (text : List ℕ) (i kind count at n : ℕ) (w w′ : List �
   pub advanced : Advanced text at r
 
 -- a row, read
-pub record RowRead (text : List ℕ) (i at n : ℕ) (w w′ : List ℕ) (r : Progress) : Type 0 where
-  pub told : readTold text r (rowIn w′ i) ≡ readRow (rowsIn w i) (linesOf (drop at text)) n
-  pub only : Only (rowAddress i) (rowAddress i + 36) w w′
-  pub advanced : Advanced text at r
+abbrev pub RowRead : List ℕ → (i at n : ℕ) → (w w′ : List ℕ) → Progress → Type 0
+RowRead text i at n w w′ r = ItemRead text (readRow (rowsIn w i)) (λ x. rowIn x i) (rowAddress i) (rowAddress i + 36) at n w w′ r
 
--- all rows of a sheet, read; nothing before or behind the rows' part of the table has changed
-pub record RowsRead (text : List ℕ) (count at n : ℕ) (w w′ : List ℕ) (r : Progress) : Type 0 where
-  pub told : readTold text r (rowsIn w′ count) ≡ many count readRow [] (linesOf (drop at text)) n
-  pub only : Only (rowAddress 0) (rowAddress 63 + 36) w w′
-  pub advanced : Advanced text at r
+-- all rows of a sheet, read, in the rows' part of the table
+abbrev pub RowsRead : List ℕ → (count at n : ℕ) → (w w′ : List ℕ) → Progress → Type 0
+RowsRead text count at n w w′ r = ItemsRead text readRow rowIn (rowAddress 0) (rowAddress 63 + 36) count at n w w′ r
