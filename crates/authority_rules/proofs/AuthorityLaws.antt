@@ -3,16 +3,16 @@
 use Prim.Native.Nat.{ℕ, zero, suc, _+_, _≤_, _<_}
 use native.Mathlib.Omega.{arith}
 use mathlib.Core.Path.{_≡_, refl, sym, subst}
-use mathlib.Core.Bool.{Bool, true, false, _&&_, _||_}
+use mathlib.Core.Bool.{Bool, true, false}
 use mathlib.Core.List.{List, [], _∷_}
 use mathlib.Core.Logic.{_⊎_, inl, inr}
-use lib.Dec.{T, eqb, eqb→eq, eqb-refl, ltb, ltb→lt}
+use lib.Dec.{T, eqb, eqb→eq, ltb, ltb→lt}
 use lib.ListN.{length}
 use borrow.Author.Tests.{eqb-false}
-use Rattle.lists.proofs.Tests.{and-left, and-right, or-left, or-right, or-cases, T-ext}
+use Rattle.lists.proofs.Tests.{and-left, or-left, or-right, or-cases, T-ext}
 use Rattle.sheet_rules.specs.Sheet.{Sheet}
 use Rattle.machine_rules.specs.State.{State}
-use Rattle.authority_rules.specs.Authority.{isResourceKind, isResource, reached, contains, holds, addIf, passing, authority}
+use Rattle.authority_rules.specs.Authority.{isResource, reached, contains, holds, addIf, passing, authority}
 
 -- ascending without repeats, from i on: each number is above all before it
 pub data Ascending : ℕ → List ℕ → Type 0 where

@@ -1,7 +1,7 @@
 -- What the authority question answers for a text, a budget and a holder, its buffers left aside (document 01, Turned away, 11).
 -- Stands on Authority and on the run.
 use Prim.Native.Nat.{ℕ}
-use mathlib.Core.Bool.{Bool, true, false, cond}
+use mathlib.Core.Bool.{cond}
 use mathlib.Core.List.{List}
 use Rattle.sheet_rules.specs.declared.Reason.{Reason}
 use Rattle.sheet_rules.specs.declared.Reason.the-variants.{NoHolder}

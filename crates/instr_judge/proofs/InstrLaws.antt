@@ -4,21 +4,17 @@ use native.Mathlib.Omega.{arith}
 use mathlib.Core.Path.{_≡_, refl, sym, ap, ap₂, _∙_, subst}
 use mathlib.Core.Bool.{Bool, true, false, _&&_, _||_}
 use mathlib.Core.List.{List, [], _∷_}
-use lib.Dec.{T, eqb, leb, ltb, lit≤}
-use lib.ListN.{length, take, drop}
+use lib.Dec.{T, leb, ltb, lit≤}
+use lib.ListN.{take, drop}
 use borrow.Author.Tests.{le-leb, lt-leb}
 use Rattle.sheet_rules.specs.declared.Key.{Key}
 use Rattle.sheet_rules.specs.declared.Key.the-variants.{Types, Row, Def, Var, Forms, Form, Keep, Init, Body, Main, New, Call, Get, Put, Copy, Unknown}
-use Rattle.sheet_rules.specs.declared.Reason.{Reason}
 use Rattle.sheet_rules.specs.declared.Reason.the-variants.{Malformed, OutOfLimit, NotDefined}
 use Rattle.sheet_rules.specs.Keys.{hasKey, hasInstructionKey}
-use Rattle.sheet_rules.specs.Sheet.{Instr, new, call, get, put, copy}
-use Rattle.sheet_rules.specs.Reader.{Judged, good, bad, demand, nth}
+use Rattle.sheet_rules.specs.Reader.{good, bad}
 use Rattle.sheet_rules.specs.FormLines.{instrOf, nameAllowed, allBelow, namesExist, instrLine}
 use Rattle.lexer.specs.declared.Numbers.{Numbers}
 use Rattle.lexer.specs.Scan.{listOf}
-use Rattle.judges.specs.declared.LineJudged.{LineJudged}
-use Rattle.judges.specs.Told.{lineTold}
 use Rattle.judges.proofs.JudgeLaws.{number-first, number-second, number-third, demand-no, demand-yes}
 use Rattle.instr_judge.specs.Named.{nameIn, slotOk, existIn}
 

@@ -1,6 +1,6 @@
 -- What an instruction line names, by its key and numbers, as the code reads it; InstrLaws ties it to the rules' instruction.
 use Prim.Native.Nat.{ℕ}
-use mathlib.Core.Bool.{Bool, true, false, _&&_, _||_}
+use mathlib.Core.Bool.{Bool, true, _&&_, _||_}
 use lib.Dec.{leb, ltb}
 use lib.ListN.{drop}
 use Rattle.sheet_rules.specs.declared.Key.{Key}

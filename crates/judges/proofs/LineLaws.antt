@@ -1,23 +1,21 @@
 -- A law for each exit of the judges of lines. Assumes nothing.
 use Prim.Native.Nat.{ℕ, _+_, _≤_, _<_}
-use native.Mathlib.Omega.{arith}
-use mathlib.Core.Path.{_≡_, refl, sym, ap, _∙_}
-use mathlib.Core.Bool.{Bool, true, false, not, _&&_}
-use mathlib.Core.List.{List, []}
-use lib.Dec.{T, eqb, leb, ltb, lit≤}
+use mathlib.Core.Path.{_≡_, sym, ap, _∙_}
+use mathlib.Core.Bool.{true, false, _&&_}
+use mathlib.Core.List.{List}
+use lib.Dec.{leb, ltb, lit≤}
 use borrow.Author.Tests.{lt-ltb, le-ltb, le-leb, lt-leb}
 use Rattle.sheet_rules.specs.declared.Key.{Key}
-use Rattle.sheet_rules.specs.declared.Reason.the-variants.{Malformed, OutOfLimit, DuplicateRow, NotDefined}
+use Rattle.sheet_rules.specs.declared.Reason.the-variants.{Malformed, OutOfLimit, NotDefined}
 use Rattle.sheet_rules.specs.Keys.{hasKey}
 use Rattle.sheet_rules.specs.Sheet.{Row}
-use Rattle.sheet_rules.specs.Reader.{Judged, good, bad, demand, nth, within, countLine, existingLine}
-use Rattle.sheet_rules.specs.RowLines.{kindOf, twin, rowLine}
+use Rattle.sheet_rules.specs.Reader.{good, bad, demand, nth, within, countLine, existingLine}
+use Rattle.sheet_rules.specs.RowLines.{rowLine}
 use Rattle.sheet_rules.specs.FormLines.{formLine, bodyLine}
 use Rattle.lexer.specs.declared.Numbers.{Numbers}
 use Rattle.lexer.specs.Scan.{listOf}
-use Rattle.judges.specs.declared.NumberJudged.{NumberJudged}
 use Rattle.judges.specs.declared.PairJudged.{PairJudged}
-use Rattle.judges.specs.Told.{numberTold, rowTold, formTold}
+use Rattle.judges.specs.Told.{rowTold, formTold}
 use Rattle.judges.proofs.JudgeLaws.{number-first, number-second, demand-no, demand-yes}
 
 module _ (w k : Key) (ns : Numbers) (h : ns .count ≤ 9) where

@@ -1,11 +1,11 @@
 -- A law for each exit of the judge of member lines. Assumes nothing.
-use Prim.Native.Nat.{ℕ, suc, _+_, _≤_, _<_}
+use Prim.Native.Nat.{ℕ, _≤_, _<_}
 use native.Mathlib.Omega.{arith}
-use mathlib.Core.Path.{_≡_, refl, sym, ap, _∙_, subst}
-use mathlib.Core.Bool.{Bool, true, false, not, _&&_, _||_}
-use mathlib.Core.List.{List, [], _∷_, _++_}
+use mathlib.Core.Path.{_≡_, sym, ap, _∙_, subst}
+use mathlib.Core.Bool.{Bool, true, false, _&&_, _||_}
+use mathlib.Core.List.{List}
 use mathlib.Core.Logic.{_⊎_, inl, inr}
-use lib.Dec.{T, eqb, leb, ltb, leb→le, eqb→eq}
+use lib.Dec.{T, eqb, leb, leb→le, eqb→eq}
 use lib.ListN.{length}
 use borrow.Author.Tests.{le-leb, lt-leb}
 use Rattle.lists.proofs.Tests.{and-left, and-right, or-cases, T→true, clash}
@@ -15,12 +15,12 @@ use Rattle.sheet_rules.specs.declared.Reason.{Reason}
 use Rattle.sheet_rules.specs.declared.Reason.the-variants.{Malformed, OutOfLimit, NotAscending}
 use Rattle.sheet_rules.specs.Keys.{codeOf, countOf, hasKey}
 use Rattle.sheet_rules.specs.Sheet.{Row}
-use Rattle.sheet_rules.specs.Reader.{Judged, good, bad, demand, nth}
+use Rattle.sheet_rules.specs.Reader.{bad, demand, nth}
 use Rattle.sheet_rules.specs.RowLines.{Heading, ascends, memberLine}
 use Rattle.lexer.specs.declared.Numbers.{Numbers}
 use Rattle.lexer.specs.Scan.{listOf}
 use Rattle.judges.specs.declared.LineJudged.{LineJudged}
-use Rattle.judges.specs.Told.{lineTold, Lowest, memberRest, MemberShaped, method, field}
+use Rattle.judges.specs.Told.{Lowest, memberRest, MemberShaped, method, field}
 use Rattle.judges.proofs.JudgeLaws.{length-listOf, number-first, demand-no, demand-yes}
 
 -- a refusal is no good line

@@ -1,6 +1,6 @@
 -- Every judge refuses the lines that no place takes, so that reading one line by the lexer is reading one line by the rules.
 -- Assumes nothing.
-use Prim.Native.Nat.{ℕ, suc, _+_, _≤_, _<_}
+use Prim.Native.Nat.{ℕ, _≤_, _<_}
 use native.Mathlib.Omega.{arith}
 use mathlib.Core.Path.{_≡_, refl, sym, ap, _∙_, subst}
 use mathlib.Core.Bool.{Bool, true, false, _&&_, _||_}
@@ -12,17 +12,16 @@ use Rattle.sheet_rules.specs.declared.Key.{Key}
 use Rattle.sheet_rules.specs.declared.Key.the-variants.{Types, Row, Def, Var, Forms, Form, Keep, Init, Body, Main, New, Call, Get, Put, Copy, Unknown}
 use Rattle.sheet_rules.specs.declared.Member.{Member}
 use Rattle.sheet_rules.specs.declared.Reason.the-variants.{Malformed}
-use Rattle.sheet_rules.specs.Keys.{codeOf, countOf, hasKey, hasInstructionKey}
+use Rattle.sheet_rules.specs.Keys.{codeOf, countOf, hasKey}
 use Rattle.sheet_rules.specs.Lines.{Line, line, torn, linesOf}
-use Rattle.sheet_rules.specs.Sheet.{Instr}
 use Rattle.sheet_rules.specs.Sheet.{Row as RowRule}
-use Rattle.sheet_rules.specs.Reader.{Judged, good, bad, demand, Read, got, refused, settle, one, countLine, existingLine}
+use Rattle.sheet_rules.specs.Reader.{Judged, bad, refused, settle, one, countLine, existingLine}
 use Rattle.sheet_rules.specs.RowLines.{Heading, rowLine, memberLine}
 use Rattle.sheet_rules.specs.FormLines.{formLine, bodyLine, instrLine}
 use Rattle.lexer.specs.declared.Numbers.{Numbers}
 use Rattle.lexer.specs.declared.LineRead.{LineRead}
 use Rattle.lexer.specs.Scan.{listOf, lineAt}
-use Rattle.lexer.proofs.KeyScan.{Hopeless, is-torn, unknown, too-many}
+use Rattle.lexer.proofs.KeyScan.{Hopeless, unknown, too-many}
 use Rattle.lexer.proofs.LineLaws.{Refusing, nothing, hopeless, Found, a-line, no-line}
 use Rattle.lexer.proofs.LineFound.{line-found}
 use Rattle.judges.specs.Told.{Known}

@@ -2,22 +2,20 @@
 use Prim.Native.Nat.{ℕ, zero, suc, _+_, _*_, _-_, _≤_, _<_}
 use native.Mathlib.Omega.{arith}
 use mathlib.Core.Path.{_≡_, refl, sym, ap, _∙_, subst}
-use mathlib.Core.Bool.{Bool, true, false, not, cond, _&&_}
-use mathlib.Core.List.{List, [], _∷_, _++_, append-assoc, append-nil}
-use lib.Dec.{T, eqb, leb, ltb, leb→le, le→leb, eqb→eq}
-use lib.ListN.{length, getD, take, length-append}
+use mathlib.Core.Bool.{Bool, true, not, cond, _&&_}
+use mathlib.Core.List.{List, [], _∷_, _++_, append-nil}
+use lib.Dec.{T, leb, leb→le, le→leb}
+use lib.ListN.{length}
 use lib.Seq.{append-snoc}
-use borrow.Author.Tests.{lt-ltb, le-ltb, eq-eqb, ne-eqb, le-leb, lt-leb, ltb-true, ltb-false, leb-true, leb-false, eqb-true, eqb-false}
-use Rattle.lists.proofs.Tests.{and-left, and-right, and-intro, T→true}
+use borrow.Author.Tests.{ne-eqb}
+use Rattle.lists.proofs.Tests.{and-left, and-right, and-intro}
 use Rattle.sheet_rules.specs.Limits.{decimalLimit}
-use Rattle.sheet_rules.specs.Lines.{newline, comma, digit0, digit9, inFront, splitStep, splitOn, allDigits, noLeadingZero, valueFrom, valueOf, isDecimal, allDecimals, values}
+use Rattle.sheet_rules.specs.Lines.{comma, digit0, digit9, inFront, splitOn, allDigits, noLeadingZero, valueFrom, valueOf, isDecimal, allDecimals, values}
 use Rattle.lexer.specs.declared.Part.{Part}
 use Rattle.lexer.specs.declared.Part.the-variants.{Empty, Zero, Digits}
-use Rattle.lexer.specs.declared.Turn.{Turn}
-use Rattle.lexer.specs.declared.Turn.the-variants.{More, Comma, End}
 use Rattle.lexer.specs.declared.Numbers.{Numbers}
 use Rattle.lexer.specs.declared.NumbersRead.{NumbersRead}
-use Rattle.lexer.specs.Scan.{PartFits, endTurn, digitTurn, firstTurn, turnOf, noNumbers, withNumber, listOf, onTurn, numbersScan}
+use Rattle.lexer.specs.Scan.{withNumber, listOf}
 
 -- one number more is one element more
 

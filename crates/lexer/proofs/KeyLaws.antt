@@ -1,15 +1,14 @@
 -- A word of letters and its number in base 27: the number tells the word, so that the key of a code is the key of its word; and
 -- a word that no key has. Assumes nothing.
-use Prim.Native.Nat.{ℕ, zero, suc, _+_, _*_, _-_, _≤_, _<_}
+use Prim.Native.Nat.{ℕ, suc, _+_, _*_, _-_, _≤_, _<_}
 use native.Mathlib.Omega.{arith}
 use native.Mathlib.Decide.{decLe}
 use mathlib.Core.Path.{_≡_, refl, sym, ap, _∙_, subst}
 use mathlib.Core.Bool.{Bool, true, false, cond, _&&_}
-use mathlib.Core.List.{List, [], _∷_, _++_, reverse, reverseAux, reverse-reverse}
+use mathlib.Core.List.{List, [], _∷_, reverse, reverseAux, reverse-reverse}
 use lib.Dec.{T, eqb, leb, eqb→eq, eqb-refl, leb→le}
 use lib.ListN.{length}
-use borrow.Author.Tests.{eq-eqb}
-use Rattle.lists.proofs.Tests.{and-left, and-right, and-intro, T→true, T-ext}
+use Rattle.lists.proofs.Tests.{and-left, and-right, and-intro, T-ext}
 use Rattle.sheet_rules.specs.declared.Key.{Key}
 use Rattle.sheet_rules.specs.declared.Key.the-variants.{Types, Row, Def, Var, Forms, Form, Keep, Init, Body, Main, New, Call, Get, Put, Copy, Unknown}
 use Rattle.sheet_rules.specs.Keys.{bytes, spelling, allKeys, sameBytes, keyAmong, keyOf}

@@ -1,21 +1,21 @@
 -- Scanning a line's key, byte by byte: it finds the letters before the equal sign, or loses a line that no place takes.
 -- Assumes nothing.
-use Prim.Native.Nat.{ℕ, zero, suc, _+_, _*_, _-_, _≤_, _<_}
+use Prim.Native.Nat.{ℕ, suc, _+_, _*_, _-_, _≤_, _<_}
 use native.Mathlib.Omega.{arith}
 use native.Mathlib.Decide.{decLe}
 use mathlib.Core.Path.{_≡_, refl, sym, ap, _∙_, subst}
-use mathlib.Core.Bool.{Bool, true, false, cond, _&&_}
-use mathlib.Core.List.{List, [], _∷_, _++_, append-nil, append-assoc}
+use mathlib.Core.Bool.{Bool, true, false, cond}
+use mathlib.Core.List.{List, [], _∷_, _++_}
 use lib.Dec.{T, eqb, leb, ltb}
 use lib.ListN.{length, length-append}
 use lib.Seq.{append-snoc}
-use borrow.Author.Tests.{le-leb, ne-eqb, eq-eqb, ltb-true, ltb-false, eqb-true, eqb-false}
+use borrow.Author.Tests.{le-leb, ltb-true, ltb-false, eqb-true, eqb-false}
 use Rattle.lists.proofs.Tests.{and-left, and-right, and-intro}
 use Rattle.sheet_rules.specs.declared.Key.{Key}
 use Rattle.sheet_rules.specs.Keys.{keyOf}
 use Rattle.sheet_rules.specs.Lines.{newline, comma, equals, inFront, splitOn, allDecimals, values, Line, line, torn, numbered, keyed, lineOf}
 use Rattle.lexer.specs.declared.KeyRead.{KeyRead}
-use Rattle.lexer.specs.Scan.{codeLimit, onLetter, keyScan, wordCode}
+use Rattle.lexer.specs.Scan.{codeLimit, keyScan, wordCode}
 use Rattle.lexer.proofs.DecimalLaws.{glue, glue-step, splitOn-other, Lacks}
 use Rattle.lexer.proofs.NumberScan.{split-form}
 use Rattle.lexer.proofs.KeyLaws.{isLetter, allLetters, letter-low, letter-high, keyOf-no-letters, keyOf-long}

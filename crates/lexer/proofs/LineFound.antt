@@ -1,5 +1,5 @@
 -- The law of the lexer: what `lineAt` reads is the first of the rules' lines. Assumes nothing.
-use Prim.Native.Nat.{ℕ, zero, suc, _+_, _*_, _-_, _≤_, _<_}
+use Prim.Native.Nat.{ℕ, zero, suc, _+_, _*_, _-_, _<_}
 use native.Mathlib.Omega.{arith}
 use mathlib.Core.Path.{_≡_, refl, sym, ap, _∙_, subst}
 use mathlib.Core.Bool.{Bool, true, false, cond}
@@ -21,9 +21,9 @@ use Rattle.lexer.specs.declared.Numbers.{Numbers}
 use Rattle.lexer.specs.declared.NumbersRead.{NumbersRead}
 use Rattle.lexer.specs.declared.KeyRead.{KeyRead}
 use Rattle.lexer.specs.declared.LineRead.{LineRead}
-use Rattle.lexer.specs.Scan.{endTurn, turnOf, noNumbers, withNumber, listOf, onTurn, numbersScan, keyScan, wordCode, keyOfCode, withKey, afterKey, lineAt}
+use Rattle.lexer.specs.Scan.{endTurn, turnOf, noNumbers, withNumber, listOf, onTurn, numbersScan, keyScan, wordCode, keyOfCode, lineAt}
 use Rattle.lexer.proofs.ScanSteps.{key-later, line-no-key, line-no-numbers, line-whole}
-use Rattle.lexer.proofs.DecimalLaws.{glue, Lacks, Scanned, found, lost, none-yet}
+use Rattle.lexer.proofs.DecimalLaws.{Lacks, Scanned, found, lost, none-yet}
 use Rattle.lexer.proofs.NumberScan.{glue-none, scanned}
 use Rattle.lexer.proofs.KeyLaws.{allLetters, keyOfCode-word}
 use Rattle.lexer.proofs.KeyScan.{Hopeless, is-torn, too-many, KeyScanned, letters, no-key, key-scanned}

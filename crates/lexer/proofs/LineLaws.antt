@@ -1,31 +1,24 @@
 -- What reading a line at a place finds is the first of the lines that the rules see there, and what is left are the lines after
 -- it; or there is no line, or one that no place takes. Assumes nothing.
-use Prim.Native.Nat.{ℕ, zero, suc, _+_, _-_, _≤_, _<_}
+use Prim.Native.Nat.{ℕ, _≤_, _<_}
 use native.Mathlib.Omega.{arith}
 use mathlib.Core.Path.{_≡_, refl, sym, ap, _∙_, subst}
-use mathlib.Core.Bool.{Bool, true, false, cond, _&&_}
-use mathlib.Core.List.{List, [], _∷_, _++_, append-nil, append-assoc, head-eq-of-cons-eq, tail-eq-of-cons-eq, nil≢cons}
-use lib.Dec.{T, eqb, leb}
-use lib.ListN.{length, drop, length-append, length-drop}
-use lib.Seq.{drop-drop, drop-at, append-snoc}
-use borrow.Author.Tests.{ne-eqb, eq-eqb, eqb-true, eqb-false}
-use Rattle.lists.proofs.Tests.{and-left, and-right, and-intro}
+use mathlib.Core.Bool.{Bool, true, false, cond}
+use mathlib.Core.List.{List, [], _∷_, _++_, append-nil, head-eq-of-cons-eq, tail-eq-of-cons-eq, nil≢cons}
+use lib.Dec.{T, eqb}
+use lib.ListN.{length, drop}
+use borrow.Author.Tests.{eq-eqb, eqb-true, eqb-false}
+use Rattle.lists.proofs.Tests.{and-right}
 use Rattle.sheet_rules.specs.declared.Key.{Key}
 use Rattle.sheet_rules.specs.Keys.{keyOf}
-use Rattle.sheet_rules.specs.Lines.{newline, comma, equals, digit0, digit9, inFront, splitOn, isDecimal, allDecimals, values, Line, line, torn, numbered, keyed, lineOf, unfinished, finished, linesOf}
-use Rattle.lexer.specs.declared.Part.{Part}
-use Rattle.lexer.specs.declared.Part.the-variants.{Empty, Zero, Digits}
-use Rattle.lexer.specs.declared.Turn.{Turn}
-use Rattle.lexer.specs.declared.Turn.the-variants.{More, Comma, End}
+use Rattle.sheet_rules.specs.Lines.{newline, comma, equals, inFront, splitOn, isDecimal, allDecimals, values, Line, line, torn, numbered, keyed, lineOf, unfinished, finished, linesOf}
 use Rattle.lexer.specs.declared.Numbers.{Numbers}
-use Rattle.lexer.specs.declared.NumbersRead.{NumbersRead}
-use Rattle.lexer.specs.declared.KeyRead.{KeyRead}
 use Rattle.lexer.specs.declared.LineRead.{LineRead}
-use Rattle.lexer.specs.Scan.{PartFits, endTurn, turnOf, noNumbers, withNumber, listOf, onTurn, numbersScan, codeLimit, keyScan, wordCode, keyOfCode, withKey, afterKey, lineAt}
-use Rattle.lexer.proofs.DecimalLaws.{glue, glue-step, not-a-digit, splitOn-other, Lacks, Scanned, found, lost, none-yet}
-use Rattle.lexer.proofs.NumberScan.{Class, is-comma, is-digit, is-other, classify, split-form, glue-none, scanned}
-use Rattle.lexer.proofs.KeyLaws.{allLetters, keyOfCode-word}
-use Rattle.lexer.proofs.KeyScan.{Hopeless, is-torn, unknown, too-many, split-letters, KeyScanned, letters, no-key, key-scanned}
+use Rattle.lexer.specs.Scan.{listOf}
+use Rattle.lexer.proofs.DecimalLaws.{glue, glue-step, not-a-digit, splitOn-other, Lacks}
+use Rattle.lexer.proofs.NumberScan.{Class, is-comma, is-digit, is-other, classify, split-form, glue-none}
+use Rattle.lexer.proofs.KeyLaws.{allLetters}
+use Rattle.lexer.proofs.KeyScan.{Hopeless, is-torn, split-letters}
 
 -- lines of which no place takes the first
 pub data Refusing : List Line → Type 0 where

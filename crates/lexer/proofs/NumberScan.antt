@@ -1,24 +1,24 @@
 -- Scanning a line's numbers, byte by byte, against the pieces between its commas: the induction of DecimalLaws' facts.
 -- Assumes nothing.
-use Prim.Native.Nat.{ℕ, zero, suc, _+_, _*_, _-_, _≤_, _<_}
+use Prim.Native.Nat.{ℕ, suc, _+_, _*_, _-_, _≤_, _<_}
 use native.Mathlib.Omega.{arith}
 use mathlib.Core.Path.{_≡_, refl, sym, ap, _∙_, subst}
 use mathlib.Core.Bool.{Bool, true, false, cond, _&&_}
 use mathlib.Core.List.{List, [], _∷_, _++_, append-nil}
 use lib.Dec.{T, eqb, leb, ltb}
 use lib.ListN.{length}
-use borrow.Author.Tests.{lt-ltb, le-ltb, ne-eqb, le-leb, lt-leb, ltb-true, ltb-false, leb-true, leb-false, eqb-true, eqb-false}
+use borrow.Author.Tests.{le-ltb, ne-eqb, le-leb, ltb-true, ltb-false, leb-true, leb-false, eqb-true, eqb-false}
 use Rattle.lists.proofs.Tests.{and-left, and-right, and-intro}
 use Rattle.sheet_rules.specs.Limits.{decimalLimit}
 use Rattle.sheet_rules.specs.Lines.{newline, comma, digit0, digit9, inFront, splitOn, allDigits, valueFrom, valueOf, isDecimal, allDecimals, values}
 use Rattle.lexer.specs.declared.Part.{Part}
 use Rattle.lexer.specs.declared.Part.the-variants.{Empty, Zero, Digits}
 use Rattle.lexer.specs.declared.Turn.{Turn}
-use Rattle.lexer.specs.declared.Turn.the-variants.{More, Comma, End}
+use Rattle.lexer.specs.declared.Turn.the-variants.{More, Comma}
 use Rattle.lexer.specs.declared.Numbers.{Numbers}
 use Rattle.lexer.specs.declared.NumbersRead.{NumbersRead}
-use Rattle.lexer.specs.Scan.{PartFits, endTurn, digitTurn, firstTurn, turnOf, withNumber, listOf, onTurn, numbersScan}
-use Rattle.lexer.proofs.DecimalLaws.{with-list, with-count, allDigits-snoc, valueFrom-append, Written, none-yet, a-zero, some-digits, glue, glue-step, digits-decimal, not-a-digit, digit-after-zero, too-large, Scanned, found, lost, Lacks, splitOn-comma, splitOn-other, after-comma}
+use Rattle.lexer.specs.Scan.{PartFits, endTurn, turnOf, withNumber, listOf, onTurn, numbersScan}
+use Rattle.lexer.proofs.DecimalLaws.{with-list, with-count, allDigits-snoc, valueFrom-append, Written, none-yet, a-zero, some-digits, glue, glue-step, digits-decimal, not-a-digit, digit-after-zero, too-large, Scanned, found, lost, Lacks, splitOn-other, after-comma}
 
 -- what a byte is to the numbers of a line
 pub data Class (b : ℕ) : Type 0 where

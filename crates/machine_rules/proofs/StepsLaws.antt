@@ -2,21 +2,19 @@
 -- Assumes nothing.
 use Prim.Native.Nat.{ℕ, zero, suc, pred, _+_, _≤_, _<_}
 use native.Mathlib.Omega.{arith}
-use native.Mathlib.Numerals.{add-one}
-use mathlib.Core.Path.{_≡_, refl, sym, ap, _∙_, subst}
+use mathlib.Core.Path.{_≡_, refl, ap, _∙_}
 use mathlib.Core.Bool.{Bool, true, false, cond}
 use mathlib.Core.List.{List, [], _∷_, _++_}
 use mathlib.Core.Option.{Option, none, some}
 use lib.Dec.{ltb}
-use lib.ListN.{length, set, length-append, length-set}
+use lib.ListN.{length, length-append, length-set}
 use Rattle.sheet_rules.specs.Limits.{storeLimit, stackLimit}
 use Rattle.sheet_rules.specs.Sheet.{Sheet, Instr, new, call, get, put, copy}
 use Rattle.machine_rules.specs.declared.Outcome.{Outcome}
 use Rattle.machine_rules.specs.declared.Outcome.the-variants.{Done, Spent, StoreFull, StackFull}
-use Rattle.machine_rules.specs.declared.Tally.{Tally}
-use Rattle.machine_rules.specs.State.{Object, Frame, State, start, frameCount, made, objectAt}
-use Rattle.machine_rules.specs.Step.{Action, creates, calls, returns, works, Next, finished, step, storeFull, stackFull, lacking, bodyIn, fieldPlace, membersOf, slotValues, withNew, newStep, calledStep, callStep, gotStep, getStep, withField, hasPutStep, putStep, instrStep, returnStep, codeStep, nextStep}
-use Rattle.machine_rules.specs.Steps.{stateOf, stepFrom, after, tallyOf, counted, Ran, ended, budgetUsed, goOn, runFrom, run}
+use Rattle.machine_rules.specs.State.{Frame, State, start, frameCount, made, objectAt}
+use Rattle.machine_rules.specs.Step.{Action, creates, Next, finished, step, storeFull, stackFull, lacking, bodyIn, fieldPlace, membersOf, slotValues, withNew, newStep, calledStep, callStep, gotStep, getStep, withField, hasPutStep, putStep, instrStep, returnStep, codeStep, nextStep}
+use Rattle.machine_rules.specs.Steps.{stateOf, stepFrom, after, tallyOf, counted, Ran, budgetUsed, goOn, runFrom, run}
 
 -- the state after n + 1 steps is one step from the state after n
 pub after-suc : (s : Sheet) (n : ℕ) → after s (suc n) ≡ stepFrom s (after s n)

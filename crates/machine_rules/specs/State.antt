@@ -1,7 +1,7 @@
 -- The states of the machine (document 01, The machine; The sheet, slots). Stands on the sheet.
 use Prim.Native.Nat.{ℕ, suc}
 use mathlib.Core.List.{List, [], _∷_, _++_}
-use mathlib.Core.Option.{Option, none, some}
+use mathlib.Core.Option.{Option, none}
 use lib.ListN.{length, getD}
 use Rattle.sheet_rules.specs.Sheet.{Instr, Part, init, body, Sheet, formAt}
 

@@ -1,26 +1,22 @@
 -- A member stored in row i changes neither the rows before it nor the members before it; and what is left to ask of its line.
 -- Assumes nothing.
-use Prim.Native.Nat.{ℕ, zero, suc, _+_, _*_, _≤_, _<_, min}
+use Prim.Native.Nat.{ℕ, suc, _+_, _≤_, _<_}
 use native.Mathlib.Omega.{arith}
 use native.Mathlib.Numerals.{add-one}
-use native.Mathlib.Decide.{decLe}
 use mathlib.Core.Path.{_≡_, refl, sym, ap, ap₂, _∙_, subst}
 use mathlib.Core.Bool.{Bool, true, false, not, _&&_}
 use mathlib.Core.List.{List, [], _∷_, _++_}
 use lib.Dec.{T, eqb, eqb→eq}
 use lib.ListN.{length, drop}
-use Rattle.lists.specs.Tab.{tab}
 use Rattle.lists.proofs.TabLaws.{tab-suc, tab-ext, length-tab}
 use Rattle.lists.proofs.Tests.{clash}
 use Rattle.sheet_rules.specs.declared.Key.{Key}
-use Rattle.sheet_rules.specs.declared.Kind.{Kind}
 use Rattle.sheet_rules.specs.declared.Member.{Member}
 use Rattle.sheet_rules.specs.declared.Reason.{Reason}
 use Rattle.sheet_rules.specs.declared.Reason.the-variants.{DuplicateRow, NotDefined}
 use Rattle.sheet_rules.specs.Lines.{Line, linesOf}
-use Rattle.sheet_rules.specs.Sheet.{Row}
-use Rattle.sheet_rules.specs.Reader.{Judged, good, bad, demand, Read, got, refused, settle}
-use Rattle.sheet_rules.specs.RowLines.{Heading, kindOf, twin, memberOf, mentionsBelow}
+use Rattle.sheet_rules.specs.Reader.{Judged, good, bad, demand, got, refused, settle}
+use Rattle.sheet_rules.specs.RowLines.{kindOf, twin, memberOf, mentionsBelow}
 use Rattle.lexer.specs.declared.Numbers.{Numbers}
 use Rattle.lexer.specs.Scan.{listOf}
 use Rattle.judges.specs.Told.{memberRest}
@@ -31,7 +27,6 @@ use Rattle.table.specs.Only.{Only}
 use Rattle.table.proofs.ViewLaws.{only-widen, row-other}
 use Rattle.row_store.specs.Stored.{Stored}
 use Rattle.line_reader.specs.declared.Progress.{Progress}
-use Rattle.line_reader.specs.Told.{readTold}
 use Rattle.row_reader.specs.Reads.{headingIn, Kept}
 
 -- members before and after the one that changed

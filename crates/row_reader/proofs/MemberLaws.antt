@@ -1,7 +1,7 @@
 -- Reading one member: a law for each exit. Assumes nothing.
-use Prim.Native.Nat.{ℕ, suc, _+_, _≤_, _<_}
+use Prim.Native.Nat.{ℕ, _+_, _≤_}
 use native.Mathlib.Omega.{arith}
-use mathlib.Core.Path.{_≡_, refl, sym, ap, _∙_, subst}
+use mathlib.Core.Path.{_≡_, refl, sym, ap, _∙_}
 use mathlib.Core.List.{List}
 use lib.ListN.{length, drop}
 use Rattle.sheet_rules.specs.declared.Key.{Key}
@@ -9,7 +9,7 @@ use Rattle.sheet_rules.specs.declared.Member.{Member}
 use Rattle.sheet_rules.specs.declared.Reason.{Reason}
 use Rattle.sheet_rules.specs.declared.Reason.the-variants.{Malformed}
 use Rattle.sheet_rules.specs.Lines.{Line, linesOf}
-use Rattle.sheet_rules.specs.Reader.{Judged, good, bad, Read, got, refused, settle, one}
+use Rattle.sheet_rules.specs.Reader.{Judged, bad, refused, settle, one}
 use Rattle.sheet_rules.specs.RowLines.{memberLine}
 use Rattle.lexer.specs.declared.Numbers.{Numbers}
 use Rattle.lexer.specs.declared.LineRead.{LineRead}
@@ -18,10 +18,10 @@ use Rattle.judges.specs.declared.LineJudged.{LineJudged}
 use Rattle.judges.specs.Told.{lineTold, memberRest}
 use Rattle.judges.proofs.StrictLaws.{strict-member, one-torn, one-line, Taken, line-taken}
 use Rattle.table.specs.Layout.{memberAddress}
-use Rattle.table.specs.View.{memberIn, membersIn, rowsIn}
+use Rattle.table.specs.View.{membersIn, rowsIn}
 use Rattle.table.proofs.ViewLaws.{only-refl}
 use Rattle.line_reader.specs.declared.Progress.{Progress}
-use Rattle.line_reader.specs.Told.{Room, readTold, Advanced}
+use Rattle.line_reader.specs.Told.{Room, Advanced}
 use Rattle.row_reader.specs.Reads.{headingIn, Kept, MemberRead}
 
 settle-bad : (q : Reason) (ls : List Line) (n : ℕ) → settle {A = Member} (bad q) ls n ≡ refused q n

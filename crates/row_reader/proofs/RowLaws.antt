@@ -1,10 +1,10 @@
 -- Reading one row: its heading stored, its twin asked, its members read. Assumes nothing.
-use Prim.Native.Nat.{ℕ, zero, suc, _+_, _*_, _≤_, _<_, min}
+use Prim.Native.Nat.{ℕ, suc, _+_, _≤_, _<_}
 use native.Mathlib.Omega.{arith}
 use native.Mathlib.Numerals.{add-one}
 use mathlib.Core.Path.{_≡_, refl, sym, ap, ap₂, _∙_, subst}
 use mathlib.Core.Bool.{Bool, true, false, not, _&&_}
-use mathlib.Core.List.{List, [], _∷_, _++_}
+use mathlib.Core.List.{List, []}
 use lib.Dec.{T, eqb, eqb→eq}
 use lib.ListN.{length, drop, set, length-set}
 use lib.Seq.{getD-set-same, getD-set-other}
@@ -15,13 +15,13 @@ use Rattle.sheet_rules.specs.declared.Reason.{Reason}
 use Rattle.sheet_rules.specs.declared.Reason.the-variants.{DuplicateRow}
 use Rattle.sheet_rules.specs.Lines.{Line, linesOf}
 use Rattle.sheet_rules.specs.Sheet.{Row}
-use Rattle.sheet_rules.specs.Reader.{Judged, good, bad, demand, Read, got, refused, give, andThen, settle, one, many}
+use Rattle.sheet_rules.specs.Reader.{refused, give, andThen, settle, one, many}
 use Rattle.sheet_rules.specs.RowLines.{Heading, kindOf, twin, rowLine, memberLine, readRow}
 use Rattle.judges.specs.declared.PairJudged.{PairJudged}
 use Rattle.judges.specs.Told.{rowTold}
 use Rattle.judges.proofs.JudgeLaws.{demand-no, demand-yes}
 use Rattle.table.specs.Layout.{rowAddress, workSize}
-use Rattle.table.specs.View.{cell, memberIn, membersIn, rowIn, rowsIn}
+use Rattle.table.specs.View.{cell, membersIn, rowIn, rowsIn}
 use Rattle.table.specs.Only.{Only}
 use Rattle.table.proofs.ViewLaws.{only-refl, only-set, only-trans, only-widen, row-other}
 use Rattle.line_reader.specs.declared.PairLine.{PairLine}

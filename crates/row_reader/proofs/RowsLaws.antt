@@ -1,22 +1,13 @@
 -- The rows of a sheet: what a turn of their loop needs. Assumes nothing.
-use Prim.Native.Nat.{ℕ, zero, suc, _+_, _*_, _≤_, _<_, min}
+use Prim.Native.Nat.{ℕ, _+_, _≤_, _<_}
 use native.Mathlib.Omega.{arith}
-use mathlib.Core.Path.{_≡_, refl, sym, ap, ap₂, _∙_, subst}
-use mathlib.Core.List.{List, []}
-use lib.ListN.{length, drop}
-use Rattle.lists.specs.Tab.{tab}
+use mathlib.Core.List.{List}
 use Rattle.lists.proofs.TabLaws.{tab-ext}
-use Rattle.sheet_rules.specs.declared.Member.{Member}
-use Rattle.sheet_rules.specs.Lines.{linesOf}
-use Rattle.sheet_rules.specs.Sheet.{Row}
-use Rattle.sheet_rules.specs.Reader.{Reader, one}
-use Rattle.sheet_rules.specs.RowLines.{Heading, kindOf, memberLine, readRow}
-use Rattle.table.specs.Layout.{rowAddress, memberAddress, workSize}
-use Rattle.table.specs.View.{cell, memberIn, membersIn, rowIn, rowsIn}
-use Rattle.table.specs.Only.{Only}
+use Rattle.sheet_rules.specs.RowLines.{readRow}
+use Rattle.table.specs.Layout.{rowAddress}
+use Rattle.table.specs.View.{rowIn}
 use Rattle.table.proofs.ViewLaws.{only-widen, row-other}
 use Rattle.line_reader.specs.declared.Progress.{Progress}
-use Rattle.line_reader.specs.Told.{Room}
 use Rattle.read_loop.proofs.LoopLaws.{Going, Turn}
 use Rattle.row_reader.specs.Reads.{RowRead}
 

@@ -1,10 +1,9 @@
 -- What reading rows into the table ensures. Stands on reading, the table's view, and the readers of lines.
-use Prim.Native.Nat.{ℕ, suc, _+_, _≤_, _<_}
+use Prim.Native.Nat.{ℕ, _+_, _≤_, _<_}
 use mathlib.Core.Path.{_≡_}
 use mathlib.Core.List.{List, []}
 use lib.ListN.{length, drop}
 use Rattle.sheet_rules.specs.declared.Key.{Key}
-use Rattle.sheet_rules.specs.declared.Member.{Member}
 use Rattle.sheet_rules.specs.Lines.{linesOf}
 use Rattle.sheet_rules.specs.Sheet.{Row}
 use Rattle.sheet_rules.specs.Reader.{Read, give, andThen, settle, one, many}
@@ -18,7 +17,7 @@ use Rattle.table.specs.View.{cell, memberIn, membersIn, rowIn, rowsIn}
 use Rattle.table.specs.Only.{Only}
 use Rattle.read_loop.specs.Items.{ItemRead, ItemsRead}
 use Rattle.line_reader.specs.declared.Progress.{Progress}
-use Rattle.line_reader.specs.Told.{Room, readTold, Advanced}
+use Rattle.line_reader.specs.Told.{readTold, Advanced}
 
 -- the heading of row i, as it is stored
 abbrev pub headingIn : List ℕ → ℕ → Heading

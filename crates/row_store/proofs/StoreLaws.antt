@@ -1,15 +1,14 @@
 -- Four numbers stored in a row are a member. Assumes nothing.
-use Prim.Native.Nat.{ℕ, zero, suc, _+_, _*_, _≤_, _<_, min}
+use Prim.Native.Nat.{ℕ, _+_, _≤_, _<_}
 use native.Mathlib.Omega.{arith}
-use mathlib.Core.Path.{_≡_, refl, sym, ap, ap₂, _∙_, subst}
-use mathlib.Core.Bool.{Bool, true, false, cond}
+use mathlib.Core.Path.{_≡_, sym, ap, _∙_, subst}
+use mathlib.Core.Bool.{Bool, false, cond}
 use mathlib.Core.List.{List, [], _∷_}
 use lib.Dec.{eqb}
-use lib.ListN.{length, getD, set, length-set, take}
+use lib.ListN.{length, set, length-set, take}
 use lib.Seq.{getD-set-same, getD-set-other}
 use borrow.Author.Tests.{eq-eqb, ne-eqb}
 use Rattle.sheet_rules.specs.declared.Key.{Key}
-use Rattle.sheet_rules.specs.declared.Member.{Member}
 use Rattle.sheet_rules.specs.declared.Member.the-variants.{Method, Field}
 use Rattle.sheet_rules.specs.Keys.{codeOf}
 use Rattle.sheet_rules.specs.Reader.{nth}
@@ -20,7 +19,7 @@ use Rattle.judges.specs.Told.{MemberShaped, method, field}
 use Rattle.table.specs.Layout.{memberAddress, workSize}
 use Rattle.table.specs.View.{cell, memberFrom, memberIn}
 use Rattle.table.specs.Only.{Only}
-use Rattle.table.proofs.ViewLaws.{only-set, only-trans, only-widen}
+use Rattle.table.proofs.ViewLaws.{only-set, only-trans}
 use Rattle.row_store.specs.Stored.{tagOf, Stored}
 
 -- four numbers from a place on

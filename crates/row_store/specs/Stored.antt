@@ -1,7 +1,7 @@
 -- A member of a row, stored. Stands on the table's view.
 use Prim.Native.Nat.{ℕ, _+_}
 use mathlib.Core.Path.{_≡_}
-use mathlib.Core.Bool.{Bool, cond}
+use mathlib.Core.Bool.{cond}
 use mathlib.Core.List.{List}
 use lib.Dec.{eqb}
 use Rattle.sheet_rules.specs.declared.Key.{Key}

@@ -6,7 +6,7 @@ use lib.Dec.{T}
 use Rattle.sheet_rules.specs.declared.Key.{Key}
 use Rattle.sheet_rules.specs.declared.Reason.{Reason}
 use Rattle.sheet_rules.specs.Lines.{Line, line, torn}
-use Rattle.sheet_rules.specs.Reader.{Judged, good, bad, demand, Read, got, refused, Reader, give, andThen, _>>=_, settle, one, many}
+use Rattle.sheet_rules.specs.Reader.{Judged, good, bad, demand, Read, got, refused, Reader, andThen, settle, one, many}
 
 -- the value of a line, if it was judged good, has the property
 pub data Judges {A : Type 0} (P : A → Type 0) : Judged A → Type 0 where

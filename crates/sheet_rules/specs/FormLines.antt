@@ -1,7 +1,7 @@
 -- The lines of forms, bodies and main (document 01, The sheet, `forms` and `main`; Turned away, 3, 4 and 7).
 -- Stands on Limits, Keys, Sheet, Reader.
 use Prim.Native.Nat.{ℕ, suc, _+_}
-use mathlib.Core.Bool.{Bool, true, cond, _&&_, _||_}
+use mathlib.Core.Bool.{Bool, true, cond, _&&_}
 use mathlib.Core.List.{List, [], _∷_}
 use lib.Dec.{eqb, leb, ltb}
 use lib.ListN.{length, getD, drop}

@@ -1,6 +1,6 @@
 -- From bytes to lines: decimals, and a line as a key with its numbers (document 01, The sheet).
 -- Stands on Limits and Keys.
-use Prim.Native.Nat.{ℕ, suc, _+_, _*_, _-_}
+use Prim.Native.Nat.{ℕ, _+_, _*_, _-_}
 use mathlib.Core.Bool.{Bool, true, false, not, cond, _&&_}
 use mathlib.Core.List.{List, [], _∷_}
 use lib.Dec.{eqb, leb}

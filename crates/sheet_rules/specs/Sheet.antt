@@ -1,5 +1,5 @@
 -- What a sheet says, as a value: rows, forms and main (document 01, The sheet). Stands on the shared types alone.
-use Prim.Native.Nat.{ℕ, suc, _+_}
+use Prim.Native.Nat.{ℕ, _+_}
 use mathlib.Core.List.{List, [], _∷_}
 use lib.ListN.{length, getD}
 use Rattle.sheet_rules.specs.declared.Kind.{Kind}

@@ -8,16 +8,16 @@ use mathlib.Core.Bool.{Bool, true, false, cond, _&&_, _||_}
 use mathlib.Core.List.{List, [], _∷_}
 use mathlib.Core.Logic.{_⊎_, inl, inr}
 use lib.Dec.{T, eqb, eqb→eq, eqb-refl, ltb, ltb→lt}
-use lib.ListN.{length, getD, List·getD-eq-default}
+use lib.ListN.{length, List·getD-eq-default}
 use Rattle.lists.specs.In.{In, here, there}
 use Rattle.lists.proofs.InLaws.{in-nil}
-use Rattle.lists.proofs.Tests.{and-left, and-right, and-intro, or-left, or-right, or-cases, T-ext}
+use Rattle.lists.proofs.Tests.{and-left, and-right, and-intro, or-left, or-right, or-cases}
 use Rattle.sheet_rules.specs.declared.Kind.{Kind}
 use Rattle.sheet_rules.specs.declared.Kind.the-variants.{Pure, Resource}
 use Rattle.sheet_rules.specs.declared.Member.{Member}
 use Rattle.sheet_rules.specs.declared.Member.the-variants.{Method, Field}
 use Rattle.sheet_rules.specs.declared.FitAnswer.{FitAnswer}
-use Rattle.sheet_rules.specs.declared.FitAnswer.the-variants.{Yes, WrongKind, Unmet}
+use Rattle.sheet_rules.specs.declared.FitAnswer.the-variants.{WrongKind, Unmet}
 use Rattle.sheet_rules.specs.Answers.{isYes}
 use Rattle.sheet_rules.specs.Sheet.{Row, noRow, rowAt}
 use Rattle.sheet_rules.specs.RowLines.{nameOf, mentionsBelow}

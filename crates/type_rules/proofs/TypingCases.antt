@@ -3,13 +3,11 @@
 use Prim.Native.Nat.{ℕ}
 use Prim.Native.String.{String}
 use mathlib.Core.Path.{_≡_, refl}
-use mathlib.Core.Bool.{Bool, true, false}
-use mathlib.Core.List.{List, [], _∷_, _++_, map}
-use Rattle.sheet_rules.specs.declared.FitAnswer.{FitAnswer}
+use mathlib.Core.List.{List, [], _∷_, map}
 use Rattle.sheet_rules.specs.declared.FitAnswer.the-variants.{Yes, WrongKind, Unmet}
 use Rattle.sheet_rules.specs.declared.Reason.the-variants.{NotDefined}
 use Rattle.sheet_rules.specs.Answers.{verdictNumber, verdictLine}
-use Rattle.sheet_rules.specs.Sheet.{Row, Sheet}
+use Rattle.sheet_rules.specs.Sheet.{Row}
 use Rattle.sheet_rules.specs.Reading.{Meaning, readable, unreadable, meaning}
 use Rattle.sheet_rules.specs.Samples.{textOf, withLine, P}
 use Rattle.type_rules.specs.declared.FitReply.{FitReply}

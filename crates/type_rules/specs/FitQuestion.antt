@@ -1,7 +1,7 @@
 -- What the fit question answers for a text and two row numbers, its buffers left aside (document 01, Turned away).
 -- Stands on Fit and on reading.
 use Prim.Native.Nat.{ℕ}
-use mathlib.Core.Bool.{Bool, true, false, cond, _&&_}
+use mathlib.Core.Bool.{cond, _&&_}
 use mathlib.Core.List.{List}
 use lib.Dec.{ltb}
 use lib.ListN.{length}

@@ -7,9 +7,6 @@ use Rattle.fit.specs.Told.{Ready, pairsFilled, rowsFilled, FitFilled}
 use Rattle.fit.proofs.FillLaws.{rows-only, ready-kept, rows-next, all-filled}
 use Rattle.fit.proofs.fill.Statement.{statement}
 use Rattle.fit.proofs.fill.Tie as tie
-use Rattle.fit.proofs.fill.Reads as reads
-use Rattle.fit.proofs.fill.Lts as lts
-use Rattle.fit.proofs.fill_row.Reads as fill-row-reads
 
 abbrev Inv-loop : tie.InvT-loop
 Inv-loop work₀ rows m₀ work m = (m ≤ rows) × (work ≡ rowsFilled work₀ m)

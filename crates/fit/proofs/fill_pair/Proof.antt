@@ -3,12 +3,6 @@ use Rattle.fit.proofs.FillLaws.{pair-stored}
 use borrow.Author.Needs.{needs}
 use Rattle.fit.proofs.fill_pair.Statement.{statement}
 use Rattle.fit.proofs.fill_pair.Tie as tie
-use Rattle.fit.proofs.fill_pair.Reads as reads
-use Rattle.fit.proofs.fill_pair.Lts as lts
-use Rattle.fit.proofs.bit_of.Reads as bit-of-reads
-use Rattle.fit.proofs.row_fits.Reads as row-fits-reads
-use Rattle.table.proofs.put.Reads as put-reads
-use Rattle.table.proofs.rows.fit_address.Reads as fit-address-reads
 
 -- src/lib.rt:119:9
 row-fits-requires : tie.Need-row-fits-requires

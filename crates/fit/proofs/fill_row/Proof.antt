@@ -7,9 +7,6 @@ use Rattle.fit.specs.Told.{Ready, pairFilled, pairsFilled}
 use Rattle.fit.proofs.FillLaws.{pairs-only, ready-kept, pairs-next}
 use Rattle.fit.proofs.fill_row.Statement.{statement}
 use Rattle.fit.proofs.fill_row.Tie as tie
-use Rattle.fit.proofs.fill_row.Reads as reads
-use Rattle.fit.proofs.fill_row.Lts as lts
-use Rattle.fit.proofs.fill_pair.Reads as fill-pair-reads
 
 abbrev Inv-loop : tie.InvT-loop
 Inv-loop work₀ m k₀ work k = (k ≤ m + 1) × (work ≡ pairsFilled work₀ m k)

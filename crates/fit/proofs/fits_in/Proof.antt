@@ -5,9 +5,6 @@ use Rattle.table.specs.View.{cell}
 use borrow.Author.Needs.{needs}
 use Rattle.fit.proofs.fits_in.Statement.{statement}
 use Rattle.fit.proofs.fits_in.Tie as tie
-use Rattle.fit.proofs.fits_in.Reads as reads
-use Rattle.fit.proofs.fits_in.Lts as lts
-use Rattle.table.proofs.rows.fit_address.Reads as fit-address-reads
 
 -- src/lib.rt:20:9
 fit-address-requires : tie.Need-fit-address-requires

@@ -7,10 +7,6 @@ use Rattle.fit.specs.Told.{tells, NoMatch}
 use Rattle.fit.proofs.MatchLaws.{search-begin, search-on, search-found, search-end}
 use Rattle.fit.proofs.match_between.Statement.{statement}
 use Rattle.fit.proofs.match_between.Tie as tie
-use Rattle.fit.proofs.match_between.Reads as reads
-use Rattle.fit.proofs.match_between.Lts as lts
-use Rattle.fit.proofs.member_matches.Reads as member-matches-reads
-use Rattle.table.proofs.rows.member.Reads as member-reads
 
 abbrev Inv-loop : tie.InvT-loop
 Inv-loop work a b j from to i₀ i = (i ≤ to) × NoMatch work a (memberIn work b j) from i

@@ -5,10 +5,6 @@ use Rattle.fit.proofs.MatchLaws.{methods-name, methods-argument, method
 use borrow.Author.Needs.{needs}
 use Rattle.fit.proofs.member_matches.Statement.{statement}
 use Rattle.fit.proofs.member_matches.Tie as tie
-use Rattle.fit.proofs.member_matches.Reads as reads
-use Rattle.fit.proofs.member_matches.Lts as lts
-use Rattle.fit.proofs.fits_in.Reads as fits-in-reads
-use Rattle.table.proofs.rows.wide.Reads as wide-reads
 
 -- src/lib.rt:30:32
 enum-known-x : tie.Need-enum-known-x

@@ -11,10 +11,6 @@ use Rattle.fit.specs.Told.{tells}
 use Rattle.fit.proofs.MatchLaws.{walk-unmet, walk-on, walk-end}
 use Rattle.fit.proofs.members_fit.Statement.{statement}
 use Rattle.fit.proofs.members_fit.Tie as tie
-use Rattle.fit.proofs.members_fit.Reads as reads
-use Rattle.fit.proofs.members_fit.Lts as lts
-use Rattle.fit.proofs.place_of.Reads as place-of-reads
-use Rattle.table.proofs.rows.member_count.Reads as member-count-reads
 
 abbrev Inv-loop : tie.InvT-loop
 Inv-loop work a b there count start₀ j₀ start j =

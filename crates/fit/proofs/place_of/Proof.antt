@@ -4,10 +4,6 @@ use Rattle.fit.proofs.MatchLaws.{found-after, found-before, found-nowhe
 use borrow.Author.Needs.{needs}
 use Rattle.fit.proofs.place_of.Statement.{statement}
 use Rattle.fit.proofs.place_of.Tie as tie
-use Rattle.fit.proofs.place_of.Reads as reads
-use Rattle.fit.proofs.place_of.Lts as lts
-use Rattle.fit.proofs.match_between.Reads as match-between-reads
-use Rattle.table.proofs.rows.member_count.Reads as member-count-reads
 
 -- src/lib.rt:85:9
 member-count-requires : tie.Need-member-count-requires

@@ -5,10 +5,6 @@ use Rattle.fit.proofs.MatchLaws.{kinds-pure, kinds-resources, kinds-wro
 use borrow.Author.Needs.{needs}
 use Rattle.fit.proofs.row_fits.Statement.{statement}
 use Rattle.fit.proofs.row_fits.Tie as tie
-use Rattle.fit.proofs.row_fits.Reads as reads
-use Rattle.fit.proofs.row_fits.Lts as lts
-use Rattle.fit.proofs.members_fit.Reads as members-fit-reads
-use Rattle.table.proofs.rows.row_kind.Reads as row-kind-reads
 
 -- src/lib.rt:91:9
 row-kind-requires : tie.Need-row-kind-requires

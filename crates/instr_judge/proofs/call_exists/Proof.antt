@@ -2,8 +2,6 @@ use borrow.Author.Tests.{lt-ltb, le-ltb}
 use Rattle.instr_judge.specs.Named.{existIn}
 use Rattle.instr_judge.proofs.call_exists.Statement.{statement}
 use Rattle.instr_judge.proofs.call_exists.Tie as tie
-use Rattle.instr_judge.proofs.call_exists.Reads as reads
-use Rattle.instr_judge.proofs.call_exists.Lts as lts
 
 -- src/lib.rt:116:9
 returns : tie.Need-returns

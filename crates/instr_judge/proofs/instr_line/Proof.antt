@@ -5,11 +5,6 @@ use Rattle.instr_judge.proofs.InstrLaws.{instr-malformed, instr-name, i
 use borrow.Author.Needs.{needs}
 use Rattle.instr_judge.proofs.instr_line.Statement.{statement}
 use Rattle.instr_judge.proofs.instr_line.Tie as tie
-use Rattle.instr_judge.proofs.instr_line.Reads as reads
-use Rattle.instr_judge.proofs.instr_line.Lts as lts
-use Rattle.instr_judge.proofs.is_instruction.Reads as is-instruction-reads
-use Rattle.instr_judge.proofs.name_in.Reads as name-in-reads
-use Rattle.instr_judge.proofs.names_exist.Reads as names-exist-reads
 
 -- src/lib.rt:151:9
 is-instruction-requires : tie.Need-is-instruction-requires

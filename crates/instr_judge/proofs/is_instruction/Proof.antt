@@ -2,9 +2,6 @@ use mathlib.Core.Path.{sym, _∙_}
 use borrow.Author.Needs.{needs}
 use Rattle.instr_judge.proofs.is_instruction.Statement.{statement}
 use Rattle.instr_judge.proofs.is_instruction.Tie as tie
-use Rattle.instr_judge.proofs.is_instruction.Reads as reads
-use Rattle.instr_judge.proofs.is_instruction.Lts as lts
-use Rattle.judges.proofs.has_key.Reads as has-key-reads
 
 -- src/lib.rt:21:8
 has-key-requires : tie.Need-has-key-requires

@@ -4,8 +4,6 @@ use Rattle.instr_judge.specs.Named.{nameIn}
 use borrow.Author.Needs.{needs}
 use Rattle.instr_judge.proofs.name_in.Statement.{statement}
 use Rattle.instr_judge.proofs.name_in.Tie as tie
-use Rattle.instr_judge.proofs.name_in.Reads as reads
-use Rattle.instr_judge.proofs.name_in.Lts as lts
 
 -- src/lib.rt:41:22
 enum-told : tie.Need-enum-told

@@ -4,10 +4,6 @@ use Rattle.instr_judge.specs.Named.{existIn}
 use borrow.Author.Needs.{needs}
 use Rattle.instr_judge.proofs.names_exist.Statement.{statement}
 use Rattle.instr_judge.proofs.names_exist.Tie as tie
-use Rattle.instr_judge.proofs.names_exist.Reads as reads
-use Rattle.instr_judge.proofs.names_exist.Lts as lts
-use Rattle.instr_judge.proofs.call_exists.Reads as call-exists-reads
-use Rattle.instr_judge.proofs.new_exists.Reads as new-exists-reads
 
 -- src/lib.rt:127:21
 enum-told : tie.Need-enum-told

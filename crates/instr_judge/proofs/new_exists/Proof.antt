@@ -1,12 +1,8 @@
-use mathlib.Core.Path.{sym, _∙_}
 use borrow.Author.Tests.{lt-ltb, le-ltb}
 use Rattle.instr_judge.specs.Named.{existIn}
 use borrow.Author.Needs.{needs}
 use Rattle.instr_judge.proofs.new_exists.Statement.{statement}
 use Rattle.instr_judge.proofs.new_exists.Tie as tie
-use Rattle.instr_judge.proofs.new_exists.Reads as reads
-use Rattle.instr_judge.proofs.new_exists.Lts as lts
-use Rattle.instr_judge.proofs.slots_below.Reads as slots-below-reads
 
 -- src/lib.rt:106:9
 slots-below-requires : tie.Need-slots-below-requires

@@ -2,8 +2,6 @@ use borrow.Author.Tests.{le-leb, lt-leb}
 use Rattle.instr_judge.specs.Named.{slotOk}
 use Rattle.instr_judge.proofs.slot_ok.Statement.{statement}
 use Rattle.instr_judge.proofs.slot_ok.Tie as tie
-use Rattle.instr_judge.proofs.slot_ok.Reads as reads
-use Rattle.instr_judge.proofs.slot_ok.Lts as lts
 
 -- src/lib.rt:65:9
 returns : tie.Need-returns

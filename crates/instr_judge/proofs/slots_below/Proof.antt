@@ -5,9 +5,6 @@ use Rattle.instr_judge.proofs.InstrLaws.{slots-listed, and-true}
 use borrow.Author.Needs.{needs}
 use Rattle.instr_judge.proofs.slots_below.Statement.{statement}
 use Rattle.instr_judge.proofs.slots_below.Tie as tie
-use Rattle.instr_judge.proofs.slots_below.Reads as reads
-use Rattle.instr_judge.proofs.slots_below.Lts as lts
-use Rattle.instr_judge.proofs.slot_ok.Reads as slot-ok-reads
 
 -- src/lib.rt:76:9
 slot-ok-requires : tie.Need-slot-ok-requires

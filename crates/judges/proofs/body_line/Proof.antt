@@ -4,9 +4,6 @@ use Rattle.judges.proofs.LineLaws.{body-malformed, body-none, body-many
 use borrow.Author.Needs.{needs}
 use Rattle.judges.proofs.body_line.Statement.{statement}
 use Rattle.judges.proofs.body_line.Tie as tie
-use Rattle.judges.proofs.body_line.Reads as reads
-use Rattle.judges.proofs.body_line.Lts as lts
-use Rattle.judges.proofs.has_key.Reads as has-key-reads
 
 -- src/lib.rt:131:9
 has-key-requires : tie.Need-has-key-requires

@@ -4,9 +4,6 @@ use Rattle.judges.proofs.LineLaws.{count-malformed, count-low, count-hi
 use borrow.Author.Needs.{needs}
 use Rattle.judges.proofs.count_line.Statement.{statement}
 use Rattle.judges.proofs.count_line.Tie as tie
-use Rattle.judges.proofs.count_line.Reads as reads
-use Rattle.judges.proofs.count_line.Lts as lts
-use Rattle.judges.proofs.has_key.Reads as has-key-reads
 
 -- src/lib.rt:86:9
 has-key-requires : tie.Need-has-key-requires

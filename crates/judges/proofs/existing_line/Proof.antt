@@ -4,9 +4,6 @@ use Rattle.judges.proofs.LineLaws.{existing-malformed, existing-not, ex
 use borrow.Author.Needs.{needs}
 use Rattle.judges.proofs.existing_line.Statement.{statement}
 use Rattle.judges.proofs.existing_line.Tie as tie
-use Rattle.judges.proofs.existing_line.Reads as reads
-use Rattle.judges.proofs.existing_line.Lts as lts
-use Rattle.judges.proofs.has_key.Reads as has-key-reads
 
 -- src/lib.rt:111:9
 has-key-requires : tie.Need-has-key-requires

@@ -5,9 +5,6 @@ use Rattle.judges.proofs.LineLaws.{form-malformed, form-keeps, form-not
 use borrow.Author.Needs.{needs}
 use Rattle.judges.proofs.form_line.Statement.{statement}
 use Rattle.judges.proofs.form_line.Tie as tie
-use Rattle.judges.proofs.form_line.Reads as reads
-use Rattle.judges.proofs.form_line.Lts as lts
-use Rattle.judges.proofs.has_key.Reads as has-key-reads
 
 -- src/lib.rt:187:9
 has-key-requires : tie.Need-has-key-requires

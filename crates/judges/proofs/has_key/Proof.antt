@@ -1,16 +1,12 @@
-use native.Mathlib.Omega.{arith}
-use mathlib.Core.Path.{_≡_, sym, ap, _∙_, subst}
+use mathlib.Core.Path.{sym, ap, _∙_, subst}
 use lib.Dec.{leb}
-use Prim.Native.Nat.{ℕ, _≤_, _<_}
+use Prim.Native.Nat.{_≤_, _<_}
 use Rattle.judges.specs.declared.KeyFacts.{KeyFacts}
 use Rattle.judges.specs.Told.{factsOf}
 use Rattle.judges.proofs.JudgeLaws.{hasKey-other, hasKey-few, hasKey-rest}
 use borrow.Author.Needs.{needs}
 use Rattle.judges.proofs.has_key.Statement.{statement}
 use Rattle.judges.proofs.has_key.Tie as tie
-use Rattle.judges.proofs.has_key.Reads as reads
-use Rattle.judges.proofs.has_key.Lts as lts
-use Rattle.judges.proofs.key_facts.Reads as key-facts-reads
 
 -- src/lib.rt:61:9
 key-facts-requires : tie.Need-key-facts-requires

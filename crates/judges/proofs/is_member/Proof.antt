@@ -1,14 +1,11 @@
-use mathlib.Core.Path.{_≡_, sym, ap, _∙_}
-use mathlib.Core.Bool.{Bool, true, _||_}
+use mathlib.Core.Path.{sym, ap, _∙_}
+use mathlib.Core.Bool.{Bool, _||_}
 use Rattle.sheet_rules.specs.declared.Key.{Key}
 use Rattle.sheet_rules.specs.Keys.{hasKey}
 use Rattle.lexer.specs.Scan.{listOf}
 use borrow.Author.Needs.{needs}
 use Rattle.judges.proofs.is_member.Statement.{statement}
 use Rattle.judges.proofs.is_member.Tie as tie
-use Rattle.judges.proofs.is_member.Reads as reads
-use Rattle.judges.proofs.is_member.Lts as lts
-use Rattle.judges.proofs.has_key.Reads as has-key-reads
 
 -- src/lib.rt:279:8
 has-key-requires : tie.Need-has-key-requires

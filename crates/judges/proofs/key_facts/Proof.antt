@@ -3,8 +3,6 @@ use Rattle.judges.specs.Told.{factsOf}
 use borrow.Author.Needs.{needs}
 use Rattle.judges.proofs.key_facts.Statement.{statement}
 use Rattle.judges.proofs.key_facts.Tie as tie
-use Rattle.judges.proofs.key_facts.Reads as reads
-use Rattle.judges.proofs.key_facts.Lts as lts
 
 -- src/lib.rt:31:23
 enum-told : tie.Need-enum-told

@@ -4,9 +4,6 @@ use Rattle.judges.proofs.MemberLaws.{refused-not, shaped-member, member
 use borrow.Author.Needs.{needs}
 use Rattle.judges.proofs.member_line.Statement.{statement}
 use Rattle.judges.proofs.member_line.Tie as tie
-use Rattle.judges.proofs.member_line.Reads as reads
-use Rattle.judges.proofs.member_line.Lts as lts
-use Rattle.judges.proofs.is_member.Reads as is-member-reads
 
 -- src/lib.rt:291:9
 is-member-requires : tie.Need-is-member-requires

@@ -5,9 +5,6 @@ use Rattle.judges.proofs.LineLaws.{row-malformed, row-kind, row-members
 use borrow.Author.Needs.{needs}
 use Rattle.judges.proofs.row_line.Statement.{statement}
 use Rattle.judges.proofs.row_line.Tie as tie
-use Rattle.judges.proofs.row_line.Reads as reads
-use Rattle.judges.proofs.row_line.Lts as lts
-use Rattle.judges.proofs.has_key.Reads as has-key-reads
 
 -- src/lib.rt:161:9
 has-key-requires : tie.Need-has-key-requires

@@ -1,8 +1,6 @@
-use borrow.Author.Tests.{lt-ltb, le-ltb, eq-eqb, ne-eqb, le-leb, lt-leb}
+use borrow.Author.Tests.{eq-eqb, ne-eqb}
 use Rattle.lexer.proofs.at_place.Statement.{statement}
 use Rattle.lexer.proofs.at_place.Tie as tie
-use Rattle.lexer.proofs.at_place.Reads as reads
-use Rattle.lexer.proofs.at_place.Lts as lts
 
 -- src/lib.rt:163:9
 returns : tie.Need-returns

@@ -1,11 +1,6 @@
 use borrow.Author.Needs.{needs}
 use Rattle.lexer.proofs.byte_turn.Statement.{statement}
 use Rattle.lexer.proofs.byte_turn.Tie as tie
-use Rattle.lexer.proofs.byte_turn.Reads as reads
-use Rattle.lexer.proofs.byte_turn.Lts as lts
-use Rattle.lexer.proofs.digit_turn.Reads as digit-turn-reads
-use Rattle.lexer.proofs.end_turn.Reads as end-turn-reads
-use Rattle.lexer.proofs.first_turn.Reads as first-turn-reads
 
 -- src/lib.rt:117:24
 enum-told : tie.Need-enum-told

@@ -1,10 +1,7 @@
-use borrow.Author.Tests.{lt-ltb, le-ltb, eq-eqb, ne-eqb, le-leb, lt-leb}
+use borrow.Author.Tests.{lt-ltb, le-ltb, le-leb, lt-leb}
 use borrow.Author.Needs.{needs}
 use Rattle.lexer.proofs.digit_turn.Statement.{statement}
 use Rattle.lexer.proofs.digit_turn.Tie as tie
-use Rattle.lexer.proofs.digit_turn.Reads as reads
-use Rattle.lexer.proofs.digit_turn.Lts as lts
-use Rattle.lexer.proofs.end_turn.Reads as end-turn-reads
 
 -- src/lib.rt:77:9
 end-turn-requires : tie.Need-end-turn-requires

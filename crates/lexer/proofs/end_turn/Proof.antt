@@ -1,8 +1,6 @@
-use borrow.Author.Tests.{lt-ltb, le-ltb, eq-eqb, ne-eqb, le-leb, lt-leb}
+use borrow.Author.Tests.{eq-eqb, ne-eqb}
 use Rattle.lexer.proofs.end_turn.Statement.{statement}
 use Rattle.lexer.proofs.end_turn.Tie as tie
-use Rattle.lexer.proofs.end_turn.Reads as reads
-use Rattle.lexer.proofs.end_turn.Lts as lts
 
 -- src/lib.rt:60:9
 returns : tie.Need-returns

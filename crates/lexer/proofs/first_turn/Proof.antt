@@ -1,9 +1,7 @@
-use borrow.Author.Tests.{lt-ltb, le-ltb, eq-eqb, ne-eqb, le-leb, lt-leb}
+use borrow.Author.Tests.{lt-ltb, le-ltb, eq-eqb, ne-eqb}
 use borrow.Author.Needs.{needs}
 use Rattle.lexer.proofs.first_turn.Statement.{statement}
 use Rattle.lexer.proofs.first_turn.Tie as tie
-use Rattle.lexer.proofs.first_turn.Reads as reads
-use Rattle.lexer.proofs.first_turn.Lts as lts
 
 -- src/lib.rt:93:9
 returns : tie.Need-returns

@@ -4,8 +4,6 @@ use Rattle.sheet_rules.specs.Keys.{bytes, spelling}
 use Rattle.lexer.specs.Scan.{wordCode, codeAmong, keyOfCode}
 use Rattle.lexer.proofs.key_of.Statement.{statement}
 use Rattle.lexer.proofs.key_of.Tie as tie
-use Rattle.lexer.proofs.key_of.Reads as reads
-use Rattle.lexer.proofs.key_of.Lts as lts
 
 -- src/lib.rt:233:1
 returns : tie.Need-returns

@@ -1,5 +1,5 @@
-use borrow.Author.Tests.{lt-ltb, le-ltb, eq-eqb, ne-eqb, le-leb, lt-leb}
-use Prim.Native.Nat.{_+_, _*_, _-_, _≤_, _<_}
+use borrow.Author.Tests.{lt-ltb, le-ltb, eq-eqb, ne-eqb}
+use Prim.Native.Nat.{_-_, _≤_, _<_}
 use native.Mathlib.Omega.{arith}
 use mathlib.Core.Path.{_≡_, refl, sym, _∙_}
 use lib.ListN.{length, drop}
@@ -7,8 +7,6 @@ use Rattle.lexer.specs.Scan.{keyScan}
 use Rattle.lexer.proofs.ScanSteps.{key-next, key-end}
 use Rattle.lexer.proofs.read_key.Statement.{statement}
 use Rattle.lexer.proofs.read_key.Tie as tie
-use Rattle.lexer.proofs.read_key.Reads as reads
-use Rattle.lexer.proofs.read_key.Lts as lts
 
 abbrev Inv-loop : tie.InvT-loop
 Inv-loop text from at₀ code₀ at code = (at ≤ length text) × (code < 14348907) × (keyScan code at (drop at text) ≡ keyScan 0 from (drop from text))

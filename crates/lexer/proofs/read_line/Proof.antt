@@ -1,15 +1,10 @@
-use mathlib.Core.Path.{_≡_, sym, ap, _∙_}
+use mathlib.Core.Path.{sym, ap, _∙_}
 use Rattle.sheet_rules.specs.declared.Key.{Key}
 use Rattle.lexer.specs.declared.LineRead.{LineRead}
 use Rattle.lexer.proofs.ScanSteps.{key-within, line-no-key, line-no-numbers, line-whole}
 use borrow.Author.Needs.{needs}
 use Rattle.lexer.proofs.read_line.Statement.{statement}
 use Rattle.lexer.proofs.read_line.Tie as tie
-use Rattle.lexer.proofs.read_line.Reads as reads
-use Rattle.lexer.proofs.read_line.Lts as lts
-use Rattle.lexer.proofs.key_of.Reads as key-of-reads
-use Rattle.lexer.proofs.read_key.Reads as read-key-reads
-use Rattle.lexer.proofs.read_numbers.Reads as read-numbers-reads
 
 -- src/lib.rt:261:43
 read-key-requires : tie.Need-read-key-requires

@@ -1,8 +1,8 @@
 use borrow.Author.Needs.{needs}
 use Rattle.lexer.specs.declared.NumbersRead.{NumbersRead}
-use Prim.Native.Nat.{_+_, _-_, _≤_, _<_}
+use Prim.Native.Nat.{_+_, _-_, _≤_}
 use native.Mathlib.Omega.{arith}
-use mathlib.Core.Path.{_≡_, refl, sym, ap, _∙_}
+use mathlib.Core.Path.{_≡_, sym, ap, _∙_}
 use lib.ListN.{length, drop, getD}
 use Rattle.lexer.specs.declared.Part.{Part}
 use Rattle.lexer.specs.declared.Numbers.{Numbers}
@@ -10,11 +10,6 @@ use Rattle.lexer.specs.Scan.{PartFits, noNumbers, withNumber, numbersSca
 use Rattle.lexer.proofs.ScanSteps.{numbers-more, numbers-comma, numbers-full, numbers-line, numbers-torn, numbers-end, part-fits}
 use Rattle.lexer.proofs.read_numbers.Statement.{statement}
 use Rattle.lexer.proofs.read_numbers.Tie as tie
-use Rattle.lexer.proofs.read_numbers.Reads as reads
-use Rattle.lexer.proofs.read_numbers.Lts as lts
-use Rattle.lexer.proofs.Numbers.none.Reads as none-reads
-use Rattle.lexer.proofs.Numbers.with.Reads as with-reads
-use Rattle.lexer.proofs.byte_turn.Reads as byte-turn-reads
 
 abbrev Inv-loop : tie.InvT-loop
 Inv-loop text from at₀ part₀ numbers₀ at part numbers =

@@ -4,8 +4,6 @@ use Rattle.line_reader.specs.Told.{settled}
 use borrow.Author.Needs.{needs}
 use Rattle.line_reader.proofs.number_line.Statement.{statement}
 use Rattle.line_reader.proofs.number_line.Tie as tie
-use Rattle.line_reader.proofs.number_line.Reads as reads
-use Rattle.line_reader.proofs.number_line.Lts as lts
 
 -- src/lib.rt:30:32
 enum-known-judged : tie.Need-enum-known-judged

@@ -4,8 +4,6 @@ use Rattle.line_reader.specs.Told.{pairSettled}
 use borrow.Author.Needs.{needs}
 use Rattle.line_reader.proofs.pair_line.Statement.{statement}
 use Rattle.line_reader.proofs.pair_line.Tie as tie
-use Rattle.line_reader.proofs.pair_line.Reads as reads
-use Rattle.line_reader.proofs.pair_line.Lts as lts
 
 -- src/lib.rt:113:28
 enum-known-judged : tie.Need-enum-known-judged

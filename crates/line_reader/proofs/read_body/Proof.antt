@@ -1,15 +1,10 @@
 use mathlib.Core.Path.{sym, _∙_}
 use Rattle.sheet_rules.specs.FormLines.{bodyLine}
-use Rattle.judges.proofs.StrictLaws.{strict-body, Taken, line-taken}
+use Rattle.judges.proofs.StrictLaws.{strict-body, line-taken}
 use Rattle.line_reader.proofs.NumberLaws.{reads-torn, reads-line}
 use borrow.Author.Needs.{needs}
 use Rattle.line_reader.proofs.read_body.Statement.{statement}
 use Rattle.line_reader.proofs.read_body.Tie as tie
-use Rattle.line_reader.proofs.read_body.Reads as reads
-use Rattle.line_reader.proofs.read_body.Lts as lts
-use Rattle.judges.proofs.body_line.Reads as body-line-reads
-use Rattle.lexer.proofs.read_line.Reads as read-line-reads
-use Rattle.line_reader.proofs.number_line.Reads as number-line-reads
 
 -- src/lib.rt:72:49
 read-line-requires : tie.Need-read-line-requires

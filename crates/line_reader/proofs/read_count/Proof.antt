@@ -1,15 +1,10 @@
 use mathlib.Core.Path.{sym, _∙_}
 use Rattle.sheet_rules.specs.Reader.{countLine}
-use Rattle.judges.proofs.StrictLaws.{strict-count, Taken, line-taken}
+use Rattle.judges.proofs.StrictLaws.{strict-count, line-taken}
 use Rattle.line_reader.proofs.NumberLaws.{reads-torn, reads-line}
 use borrow.Author.Needs.{needs}
 use Rattle.line_reader.proofs.read_count.Statement.{statement}
 use Rattle.line_reader.proofs.read_count.Tie as tie
-use Rattle.line_reader.proofs.read_count.Reads as reads
-use Rattle.line_reader.proofs.read_count.Lts as lts
-use Rattle.judges.proofs.count_line.Reads as count-line-reads
-use Rattle.lexer.proofs.read_line.Reads as read-line-reads
-use Rattle.line_reader.proofs.number_line.Reads as number-line-reads
 
 -- src/lib.rt:44:49
 read-line-requires : tie.Need-read-line-requires

@@ -1,15 +1,10 @@
 use mathlib.Core.Path.{sym, _∙_}
 use Rattle.sheet_rules.specs.Reader.{existingLine}
-use Rattle.judges.proofs.StrictLaws.{strict-existing, Taken, line-taken}
+use Rattle.judges.proofs.StrictLaws.{strict-existing, line-taken}
 use Rattle.line_reader.proofs.NumberLaws.{reads-torn, reads-line}
 use borrow.Author.Needs.{needs}
 use Rattle.line_reader.proofs.read_existing.Statement.{statement}
 use Rattle.line_reader.proofs.read_existing.Tie as tie
-use Rattle.line_reader.proofs.read_existing.Reads as reads
-use Rattle.line_reader.proofs.read_existing.Lts as lts
-use Rattle.judges.proofs.existing_line.Reads as existing-line-reads
-use Rattle.lexer.proofs.read_line.Reads as read-line-reads
-use Rattle.line_reader.proofs.number_line.Reads as number-line-reads
 
 -- src/lib.rt:58:49
 read-line-requires : tie.Need-read-line-requires

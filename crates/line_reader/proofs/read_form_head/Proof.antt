@@ -1,17 +1,12 @@
 use mathlib.Core.Path.{refl, sym, _∙_}
 use Rattle.sheet_rules.specs.FormLines.{formLine}
 use Rattle.judges.specs.Told.{formTold}
-use Rattle.judges.proofs.StrictLaws.{strict-form, Taken, line-taken}
+use Rattle.judges.proofs.StrictLaws.{strict-form, line-taken}
 use Rattle.line_reader.specs.Told.{PairOnward}
 use Rattle.line_reader.proofs.PairLaws.{pair-torn, pair-read, pair-onward}
 use borrow.Author.Needs.{needs}
 use Rattle.line_reader.proofs.read_form_head.Statement.{statement}
 use Rattle.line_reader.proofs.read_form_head.Tie as tie
-use Rattle.line_reader.proofs.read_form_head.Reads as reads
-use Rattle.line_reader.proofs.read_form_head.Lts as lts
-use Rattle.judges.proofs.form_line.Reads as form-line-reads
-use Rattle.lexer.proofs.read_line.Reads as read-line-reads
-use Rattle.line_reader.proofs.pair_line.Reads as pair-line-reads
 
 -- src/lib.rt:142:49
 read-line-requires : tie.Need-read-line-requires

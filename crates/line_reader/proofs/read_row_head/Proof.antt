@@ -1,17 +1,12 @@
 use mathlib.Core.Path.{refl, sym, _∙_}
 use Rattle.sheet_rules.specs.RowLines.{rowLine}
 use Rattle.judges.specs.Told.{rowTold}
-use Rattle.judges.proofs.StrictLaws.{strict-row, Taken, line-taken}
+use Rattle.judges.proofs.StrictLaws.{strict-row, line-taken}
 use Rattle.line_reader.specs.Told.{PairOnward}
 use Rattle.line_reader.proofs.PairLaws.{pair-torn, pair-read, pair-onward}
 use borrow.Author.Needs.{needs}
 use Rattle.line_reader.proofs.read_row_head.Statement.{statement}
 use Rattle.line_reader.proofs.read_row_head.Tie as tie
-use Rattle.line_reader.proofs.read_row_head.Reads as reads
-use Rattle.line_reader.proofs.read_row_head.Lts as lts
-use Rattle.judges.proofs.row_line.Reads as row-line-reads
-use Rattle.lexer.proofs.read_line.Reads as read-line-reads
-use Rattle.line_reader.proofs.pair_line.Reads as pair-line-reads
 
 -- src/lib.rt:128:49
 read-line-requires : tie.Need-read-line-requires

@@ -1,19 +1,13 @@
-use mathlib.Core.Path.{_≡_, sym, ap, _∙_, subst}
+use mathlib.Core.Path.{sym, ap, _∙_}
 use native.Mathlib.Omega.{arith}
-use Prim.Native.Nat.{ℕ, _+_, _≤_, _<_}
+use Prim.Native.Nat.{_+_}
 use borrow.Author.Tests.{not-true, not-false}
 use Rattle.sheet_rules.specs.RowLines.{mentionsBelow}
-use Rattle.table.specs.Layout.{rowAddress, workSize}
+use Rattle.table.specs.Layout.{rowAddress}
 use Rattle.row_reader.proofs.KeepLaws.{keep-twin, keep-not, keep-good}
 use borrow.Author.Needs.{needs}
 use Rattle.row_reader.proofs.keep_member.Statement.{statement}
 use Rattle.row_reader.proofs.keep_member.Tie as tie
-use Rattle.row_reader.proofs.keep_member.Reads as reads
-use Rattle.row_reader.proofs.keep_member.Lts as lts
-use Rattle.row_store.proofs.completes_twin.Reads as completes-twin-reads
-use Rattle.row_store.proofs.mentions_below.Reads as mentions-below-reads
-use Rattle.row_store.proofs.store_member.Reads as store-member-reads
-use Rattle.table.proofs.rows.member.Reads as member-reads
 
 -- src/lib.rt:21:5
 store-member-requires : tie.Need-store-member-requires

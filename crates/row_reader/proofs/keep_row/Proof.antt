@@ -1,20 +1,13 @@
-use mathlib.Core.Path.{_≡_, sym, ap, _∙_}
+use mathlib.Core.Path.{_≡_, ap, _∙_}
 use mathlib.Core.List.{List}
 use lib.ListN.{set}
 use native.Mathlib.Omega.{arith}
-use Prim.Native.Nat.{ℕ, _+_, _*_, _≤_, _<_}
+use Prim.Native.Nat.{ℕ, _+_, _*_}
 use Rattle.table.specs.Layout.{rowAddress}
-use Rattle.row_reader.specs.Reads.{Headed}
 use Rattle.row_reader.proofs.RowLaws.{row-twin-by, row-members-by, headed-by}
 use borrow.Author.Needs.{needs}
 use Rattle.row_reader.proofs.keep_row.Statement.{statement}
 use Rattle.row_reader.proofs.keep_row.Tie as tie
-use Rattle.row_reader.proofs.keep_row.Reads as reads
-use Rattle.row_reader.proofs.keep_row.Lts as lts
-use Rattle.row_reader.proofs.read_members.Reads as read-members-reads
-use Rattle.row_store.proofs.lone_twin.Reads as lone-twin-reads
-use Rattle.table.proofs.put.Reads as put-reads
-use Rattle.table.proofs.rows.wide.Reads as wide-reads
 
 -- src/lib.rt:110:21
 mul-base : tie.Need-mul-base

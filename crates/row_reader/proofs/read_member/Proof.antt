@@ -1,4 +1,4 @@
-use mathlib.Core.Path.{_≡_, sym, _∙_}
+use mathlib.Core.Path.{sym, _∙_}
 use native.Mathlib.Omega.{arith}
 use Rattle.judges.proofs.StrictLaws.{line-taken}
 use Rattle.table.specs.View.{membersIn, rowsIn}
@@ -7,12 +7,6 @@ use Rattle.row_reader.proofs.MemberLaws.{member-torn, member-refused, m
 use borrow.Author.Needs.{needs}
 use Rattle.row_reader.proofs.read_member.Statement.{statement}
 use Rattle.row_reader.proofs.read_member.Tie as tie
-use Rattle.row_reader.proofs.read_member.Reads as reads
-use Rattle.row_reader.proofs.read_member.Lts as lts
-use Rattle.judges.proofs.member_line.Reads as member-line-reads
-use Rattle.lexer.proofs.read_line.Reads as read-line-reads
-use Rattle.row_reader.proofs.keep_member.Reads as keep-member-reads
-use Rattle.row_store.proofs.lowest_name.Reads as lowest-name-reads
 
 -- src/lib.rt:46:49
 read-line-requires : tie.Need-read-line-requires

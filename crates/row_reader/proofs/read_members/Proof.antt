@@ -7,15 +7,10 @@ use Rattle.row_reader.specs.Reads.{headingIn}
 use Rattle.row_reader.proofs.MembersLaws.{MembersGoing, going-in, member-turn}
 use borrow.Author.Needs.{needs}
 use native.Mathlib.Omega.{arith}
-use mathlib.Core.Path.{_≡_, sym, ap, _∙_, subst}
-use Prim.Native.Nat.{ℕ, _+_, _-_, _≤_, _<_}
-use Rattle.line_reader.specs.declared.Progress.{Progress}
-use Rattle.row_reader.specs.Reads.{Headed, MemberRead, MembersRead}
+use mathlib.Core.Path.{_∙_}
+use Prim.Native.Nat.{_+_, _-_}
 use Rattle.row_reader.proofs.read_members.Statement.{statement}
 use Rattle.row_reader.proofs.read_members.Tie as tie
-use Rattle.row_reader.proofs.read_members.Reads as reads
-use Rattle.row_reader.proofs.read_members.Lts as lts
-use Rattle.row_reader.proofs.read_member.Reads as read-member-reads
 
 abbrev Inv-loop : tie.InvT-loop
 Inv-loop text work₀ i count from first j₀ at₀ line₀ work j at line = MembersGoing text i count from first work₀ work j at line

@@ -2,10 +2,6 @@ use Rattle.row_reader.proofs.RowLaws.{past, row-read, row-refused}
 use borrow.Author.Needs.{needs}
 use Rattle.row_reader.proofs.read_row.Statement.{statement}
 use Rattle.row_reader.proofs.read_row.Tie as tie
-use Rattle.row_reader.proofs.read_row.Reads as reads
-use Rattle.row_reader.proofs.read_row.Lts as lts
-use Rattle.line_reader.proofs.read_row_head.Reads as read-row-head-reads
-use Rattle.row_reader.proofs.keep_row.Reads as keep-row-reads
 
 -- src/lib.rt:128:11
 read-row-head-requires : tie.Need-read-row-head-requires

@@ -5,13 +5,10 @@ use Rattle.read_loop.proofs.LoopLaws.{going-start, going-next, going-stop, goin
 use Rattle.row_reader.proofs.RowsLaws.{RowsGoing, row-turn}
 use borrow.Author.Needs.{needs}
 use native.Mathlib.Omega.{arith}
-use mathlib.Core.Path.{_≡_, _∙_}
-use Prim.Native.Nat.{ℕ, _+_, _-_, _≤_, _<_}
+use mathlib.Core.Path.{_∙_}
+use Prim.Native.Nat.{_+_, _-_}
 use Rattle.row_reader.proofs.read_rows.Statement.{statement}
 use Rattle.row_reader.proofs.read_rows.Tie as tie
-use Rattle.row_reader.proofs.read_rows.Reads as reads
-use Rattle.row_reader.proofs.read_rows.Lts as lts
-use Rattle.row_reader.proofs.read_row.Reads as read-row-reads
 
 abbrev Inv-loop : tie.InvT-loop
 Inv-loop text work₀ count from first i₀ at₀ line₀ work i at line = RowsGoing text count from first work₀ work i at line

@@ -1,18 +1,11 @@
-use mathlib.Core.Path.{_≡_, refl, sym, ap, _∙_, subst}
-use borrow.Author.Tests.{lt-ltb, le-ltb, eq-eqb, ne-eqb}
-use native.Mathlib.Omega.{arith}
-use native.Mathlib.Numerals.{add-one}
-use Prim.Native.Nat.{ℕ, zero, suc, _+_, _-_, _≤_, _<_}
-use mathlib.Core.Bool.{Bool, true, false, _&&_}
-use lib.Dec.{eqb, ltb}
+use mathlib.Core.Path.{sym, ap, _∙_}
+use borrow.Author.Tests.{eq-eqb, ne-eqb}
+use mathlib.Core.Bool.{Bool, _&&_}
 use Rattle.sheet_rules.specs.RowLines.{twin}
 use Rattle.table.specs.View.{rowIn, rowsIn}
 use borrow.Author.Needs.{needs}
 use Rattle.row_store.proofs.lone_twin.Statement.{statement}
 use Rattle.row_store.proofs.lone_twin.Tie as tie
-use Rattle.row_store.proofs.lone_twin.Reads as reads
-use Rattle.row_store.proofs.lone_twin.Lts as lts
-use Rattle.twins.proofs.has_twin.Reads as has-twin-reads
 
 -- src/lib.rt:80:9
 has-twin-requires : tie.Need-has-twin-requires

@@ -1,22 +1,12 @@
-use mathlib.Core.Path.{_≡_, refl, sym, ap, _∙_, subst}
-use borrow.Author.Tests.{lt-ltb, le-ltb, eq-eqb, ne-eqb}
+use mathlib.Core.Path.{_≡_, sym, ap, subst}
 use native.Mathlib.Omega.{arith}
-use native.Mathlib.Numerals.{add-one}
-use Prim.Native.Nat.{ℕ, zero, suc, _+_, _-_, _≤_, _<_}
-use mathlib.Core.Bool.{Bool, true, false, _&&_}
-use lib.Dec.{eqb, ltb}
-use Rattle.lists.specs.Tab.{tab}
-use Rattle.sheet_rules.specs.RowLines.{nameOf}
+use Prim.Native.Nat.{ℕ, suc, _+_, _-_}
 use Rattle.judges.specs.Told.{Lowest}
 use Rattle.table.specs.View.{memberIn, membersIn}
 use Rattle.row_store.proofs.NameLaws.{lowest-none, lowest-after}
 use borrow.Author.Needs.{needs}
 use Rattle.row_store.proofs.lowest_name.Statement.{statement}
 use Rattle.row_store.proofs.lowest_name.Tie as tie
-use Rattle.row_store.proofs.lowest_name.Reads as reads
-use Rattle.row_store.proofs.lowest_name.Lts as lts
-use Rattle.row_store.proofs.name_of.Reads as name-of-reads
-use Rattle.table.proofs.rows.member.Reads as member-reads
 
 -- src/lib.rt:23:9
 returns : tie.Need-returns

@@ -1,16 +1,12 @@
-use mathlib.Core.Path.{_≡_, sym, ap, _∙_}
+use mathlib.Core.Path.{sym, ap, _∙_}
 use mathlib.Core.Bool.{Bool, cond}
 use borrow.Author.Tests.{eq-eqb, ne-eqb}
-use Rattle.sheet_rules.specs.declared.Key.{Key}
 use Rattle.sheet_rules.specs.Keys.{codeOf}
 use Rattle.judges.specs.declared.KeyFacts.{KeyFacts}
 use Rattle.judges.specs.Told.{factsOf}
 use borrow.Author.Needs.{needs}
 use Rattle.row_store.proofs.member_tag.Statement.{statement}
 use Rattle.row_store.proofs.member_tag.Tie as tie
-use Rattle.row_store.proofs.member_tag.Reads as reads
-use Rattle.row_store.proofs.member_tag.Lts as lts
-use Rattle.judges.proofs.key_facts.Reads as key-facts-reads
 
 -- src/lib.rt:90:9
 key-facts-requires : tie.Need-key-facts-requires

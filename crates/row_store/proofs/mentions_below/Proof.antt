@@ -1,17 +1,9 @@
-use mathlib.Core.Path.{_≡_, refl, sym, ap, _∙_, subst}
-use borrow.Author.Tests.{lt-ltb, le-ltb, eq-eqb, ne-eqb}
-use native.Mathlib.Omega.{arith}
-use native.Mathlib.Numerals.{add-one}
-use Prim.Native.Nat.{ℕ, zero, suc, _+_, _-_, _≤_, _<_}
-use mathlib.Core.Bool.{Bool, true, false, _&&_}
-use lib.Dec.{eqb, ltb}
-use Rattle.sheet_rules.specs.declared.Member.{Member}
+use mathlib.Core.Path.{sym, ap, _∙_}
+use borrow.Author.Tests.{lt-ltb, le-ltb}
 use Rattle.sheet_rules.specs.RowLines.{mentionsBelow}
 use borrow.Author.Needs.{needs}
 use Rattle.row_store.proofs.mentions_below.Statement.{statement}
 use Rattle.row_store.proofs.mentions_below.Tie as tie
-use Rattle.row_store.proofs.mentions_below.Reads as reads
-use Rattle.row_store.proofs.mentions_below.Lts as lts
 
 -- src/lib.rt:49:13
 enum-known-m : tie.Need-enum-known-m

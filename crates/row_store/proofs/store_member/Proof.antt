@@ -1,17 +1,13 @@
-use mathlib.Core.Path.{_≡_, sym, ap, _∙_}
+use mathlib.Core.Path.{_≡_, ap, _∙_}
 use mathlib.Core.List.{List}
 use lib.ListN.{set}
-use Prim.Native.Nat.{ℕ, _+_, _*_, _≤_, _<_}
+use Prim.Native.Nat.{ℕ, _+_, _*_}
 use native.Mathlib.Omega.{arith}
 use Rattle.table.specs.Layout.{memberAddress}
 use Rattle.row_store.proofs.StoreLaws.{four, stored-four}
 use borrow.Author.Needs.{needs}
 use Rattle.row_store.proofs.store_member.Statement.{statement}
 use Rattle.row_store.proofs.store_member.Tie as tie
-use Rattle.row_store.proofs.store_member.Reads as reads
-use Rattle.row_store.proofs.store_member.Lts as lts
-use Rattle.row_store.proofs.member_tag.Reads as member-tag-reads
-use Rattle.table.proofs.put.Reads as put-reads
 
 -- src/lib.rt:103:19
 mul-at : tie.Need-mul-at

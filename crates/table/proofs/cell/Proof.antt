@@ -3,8 +3,6 @@ use lib.ListN.{List·getD-eq-default}
 use borrow.Author.Needs.{needs}
 use Rattle.table.proofs.cell.Statement.{statement}
 use Rattle.table.proofs.cell.Tie as tie
-use Rattle.table.proofs.cell.Reads as reads
-use Rattle.table.proofs.cell.Lts as lts
 
 -- src/lib.rt:12:16
 mul-result : tie.Need-mul-result

@@ -3,8 +3,6 @@ use lib.Seq.{set-out}
 use borrow.Author.Needs.{needs}
 use Rattle.table.proofs.put.Statement.{statement}
 use Rattle.table.proofs.put.Tie as tie
-use Rattle.table.proofs.put.Reads as reads
-use Rattle.table.proofs.put.Lts as lts
 
 -- src/lib.rt:22:9
 mul-work : tie.Need-mul-work

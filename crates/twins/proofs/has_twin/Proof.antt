@@ -1,16 +1,13 @@
-use mathlib.Core.Path.{_≡_, sym, ap, _∙_, subst}
-use mathlib.Core.Bool.{Bool, true, false}
+use mathlib.Core.Path.{_≡_, sym, _∙_, subst}
+use mathlib.Core.Bool.{false}
 use native.Mathlib.Omega.{arith}
 use native.Mathlib.Numerals.{add-one}
-use Prim.Native.Nat.{ℕ, _+_, _-_, _≤_, _<_}
+use Prim.Native.Nat.{ℕ, _-_, _≤_}
 use Rattle.sheet_rules.specs.RowLines.{twin}
 use Rattle.table.specs.View.{rowIn, rowsIn}
 use Rattle.twins.proofs.TwinLaws.{twin-none, twin-next, twin-found}
 use Rattle.twins.proofs.has_twin.Statement.{statement}
 use Rattle.twins.proofs.has_twin.Tie as tie
-use Rattle.twins.proofs.has_twin.Reads as reads
-use Rattle.twins.proofs.has_twin.Lts as lts
-use Rattle.twins.proofs.same_row.Reads as same-row-reads
 
 abbrev Inv-loop : tie.InvT-loop
 Inv-loop work i k₀ k = (k ≤ i) × (twin (rowsIn work k) (rowIn work i) ≡ false)

@@ -1,14 +1,9 @@
-use mathlib.Core.Path.{_≡_, refl, sym, ap, ap₂, _∙_, subst}
-use borrow.Author.Tests.{eq-eqb, ne-eqb, not-true, not-false}
+use mathlib.Core.Path.{sym, ap, _∙_}
 use Rattle.sheet_rules.specs.declared.Member.{Member}
 use Rattle.sheet_rules.specs.RowLines.{sameMember}
 use borrow.Author.Needs.{needs}
 use Rattle.twins.proofs.same_member.Statement.{statement}
 use Rattle.twins.proofs.same_member.Tie as tie
-use Rattle.twins.proofs.same_member.Reads as reads
-use Rattle.twins.proofs.same_member.Lts as lts
-use Rattle.twins.proofs.same_field.Reads as same-field-reads
-use Rattle.twins.proofs.same_method.Reads as same-method-reads
 
 -- src/lib.rt:77:13
 enum-known-a : tie.Need-enum-known-a

@@ -1,21 +1,15 @@
-use mathlib.Core.Path.{_≡_, refl, sym, ap, ap₂, _∙_, subst}
-use borrow.Author.Tests.{eq-eqb, ne-eqb, not-true, not-false}
-use Rattle.sheet_rules.specs.declared.Member.{Member}
+use mathlib.Core.Path.{_≡_, sym, ap₂, _∙_, subst}
+use borrow.Author.Tests.{not-true, not-false}
 use Rattle.sheet_rules.specs.RowLines.{sameMember}
-use Prim.Native.Nat.{_+_, _-_, _≤_, _<_}
+use Prim.Native.Nat.{_-_, _≤_}
 use native.Mathlib.Omega.{arith}
 use native.Mathlib.Numerals.{add-one}
-use mathlib.Core.Bool.{Bool, true, false}
-use lib.ListN.{length}
+use mathlib.Core.Bool.{true}
 use Rattle.sheet_rules.specs.RowLines.{sameMembers}
 use Rattle.table.specs.View.{memberIn, membersIn}
 use Rattle.twins.proofs.TwinLaws.{members-none, members-next, members-differ}
 use Rattle.twins.proofs.same_members.Statement.{statement}
 use Rattle.twins.proofs.same_members.Tie as tie
-use Rattle.twins.proofs.same_members.Reads as reads
-use Rattle.twins.proofs.same_members.Lts as lts
-use Rattle.table.proofs.rows.member.Reads as member-reads
-use Rattle.twins.proofs.same_member.Reads as same-member-reads
 
 abbrev Inv-loop : tie.InvT-loop
 Inv-loop work a b count j₀ j = (j ≤ count) × (sameMembers (membersIn work a j) (membersIn work b j) ≡ true)

@@ -1,6 +1,5 @@
-use mathlib.Core.Path.{_≡_, sym, ap, ap₂, _∙_, subst}
-use native.Mathlib.Omega.{arith}
-use Prim.Native.Nat.{ℕ, _≤_, _<_}
+use mathlib.Core.Path.{sym, ap, ap₂, _∙_, subst}
+use Prim.Native.Nat.{ℕ, _≤_}
 use borrow.Author.Tests.{not-true, not-false}
 use Rattle.sheet_rules.specs.RowLines.{sameKind, sameMembers}
 use Rattle.table.specs.View.{membersIn}
@@ -8,12 +7,6 @@ use Rattle.twins.proofs.TwinLaws.{rows-kind, rows-count, rows-members}
 use borrow.Author.Needs.{needs}
 use Rattle.twins.proofs.same_row.Statement.{statement}
 use Rattle.twins.proofs.same_row.Tie as tie
-use Rattle.twins.proofs.same_row.Reads as reads
-use Rattle.twins.proofs.same_row.Lts as lts
-use Rattle.table.proofs.rows.member_count.Reads as member-count-reads
-use Rattle.table.proofs.rows.row_kind.Reads as row-kind-reads
-use Rattle.twins.proofs.same_kind.Reads as same-kind-reads
-use Rattle.twins.proofs.same_members.Reads as same-members-reads
 
 -- src/lib.rt:107:19
 row-kind-requires : tie.Need-row-kind-requires

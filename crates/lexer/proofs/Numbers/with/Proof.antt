@@ -2,9 +2,6 @@ use Rattle.lexer.specs.Scan.{withNumber}
 use borrow.Author.Needs.{needs}
 use Rattle.lexer.proofs.Numbers.with.Statement.{statement}
 use Rattle.lexer.proofs.Numbers.with.Tie as tie
-use Rattle.lexer.proofs.Numbers.with.Reads as reads
-use Rattle.lexer.proofs.Numbers.with.Lts as lts
-use Rattle.lexer.proofs.at_place.Reads as at-place-reads
 
 -- src/lib.rt:144:20
 add-t4 : tie.Need-add-t4

@@ -2,8 +2,6 @@ use Rattle.table.proofs.RowLaws.{member-method, member-field}
 use borrow.Author.Needs.{needs}
 use Rattle.table.proofs.rows.member.Statement.{statement}
 use Rattle.table.proofs.rows.member.Tie as tie
-use Rattle.table.proofs.rows.member.Reads as reads
-use Rattle.table.proofs.rows.member.Lts as lts
 
 -- src/rows.rt:43:19
 mul-at : tie.Need-mul-at

@@ -5,9 +5,6 @@ use Rattle.table.proofs.RowLaws.{row-address}
 use borrow.Author.Needs.{needs}
 use Rattle.table.proofs.rows.member_count.Statement.{statement}
 use Rattle.table.proofs.rows.member_count.Tie as tie
-use Rattle.table.proofs.rows.member_count.Reads as reads
-use Rattle.table.proofs.rows.member_count.Lts as lts
-use Rattle.table.proofs.rows.wide.Reads as wide-reads
 
 -- src/rows.rt:34:19
 mul-at : tie.Need-mul-at

@@ -2,8 +2,6 @@ use Rattle.table.proofs.RowLaws.{row-pure, row-resource}
 use borrow.Author.Needs.{needs}
 use Rattle.table.proofs.rows.row_kind.Statement.{statement}
 use Rattle.table.proofs.rows.row_kind.Tie as tie
-use Rattle.table.proofs.rows.row_kind.Reads as reads
-use Rattle.table.proofs.rows.row_kind.Lts as lts
 
 -- src/rows.rt:22:19
 mul-at : tie.Need-mul-at
