@@ -8,7 +8,7 @@ ghost use Rattle.sheet_rules.specs.WellFormed.{LowerRows};
 ghost use Rattle.type_rules.specs.Fit.{matches, hasMatch, membersAnswer};
 ghost use Rattle.table.specs.Layout.{rowAddress, workSize};
 ghost use Rattle.table.specs.View.{cell as cellOf, memberIn, rowIn, rowsIn};
-ghost use Rattle.fit.specs.Told.{tells, FirstMatch, ruleTells, bit, Ready, pairFilled, pairsFilled, rowsFilled, FitFilled};
+ghost use Rattle.fit.specs.Told.{tells, FirstMatch, ruleTells, bit, Ready, pairFilled, pairsFilled, FitFilled};
 use sheet_rules::Kind;
 use sheet_rules::Member;
 use table::rows::wide;

@@ -1,14 +1,14 @@
 // The judgement of one line by its key and numbers, in the order of the refusals' numbers.
 ghost use mathlib.Core.Path.{_≡_};
 ghost use Prim.Native.Nat.{_≤_, _<_, _+_};
-ghost use Rattle.sheet_rules.specs.Keys.{codeOf, countOf, hasKey, hasInstructionKey};
+ghost use Rattle.sheet_rules.specs.Keys.{hasKey};
 ghost use Rattle.sheet_rules.specs.Reader.{countLine, existingLine};
 ghost use mathlib.Core.List.{List};
 ghost use Rattle.sheet_rules.specs.Sheet.{Row as RowRule};
 ghost use mathlib.Core.Bool.{_||_};
 ghost use Rattle.sheet_rules.specs.declared.Member.{Member as MemberRule};
 ghost use Rattle.sheet_rules.specs.RowLines.{Heading, rowLine, memberLine};
-ghost use Rattle.sheet_rules.specs.FormLines.{formLine, bodyLine, instrLine, instrOf};
+ghost use Rattle.sheet_rules.specs.FormLines.{formLine, bodyLine};
 ghost use Rattle.lexer.specs.Scan.{listOf};
 ghost use Rattle.judges.specs.Told.{factsOf, numberTold, rowTold, formTold, AtMost8, lineTold, Lowest, memberRest, MemberShaped};
 use lexer::Numbers;

@@ -1,8 +1,8 @@
 // One line of a sheet, read and judged: the lines that leave nothing in the table by themselves.
 ghost use mathlib.Core.Path.{_≡_};
 ghost use mathlib.Core.List.{List};
-ghost use Prim.Native.Nat.{_≤_, _<_, _+_};
-ghost use lib.ListN.{length, drop};
+ghost use Prim.Native.Nat.{_<_, _+_};
+ghost use lib.ListN.{drop};
 ghost use Rattle.sheet_rules.specs.Sheet.{Row as RowRule};
 ghost use Rattle.sheet_rules.specs.Lines.{linesOf};
 ghost use Rattle.sheet_rules.specs.Reader.{one, countLine, existingLine};

@@ -1,15 +1,13 @@
 // The row in progress: its members stored, and the tests that its lines still have to pass.
 ghost use mathlib.Core.Path.{_≡_};
-ghost use mathlib.Core.Bool.{_&&_};
 ghost use Prim.Native.Nat.{_≤_, _<_, _+_, suc};
 ghost use lib.Dec.{eqb};
 ghost use lib.ListN.{length};
 ghost use Rattle.sheet_rules.specs.RowLines.{nameOf, twin, mentionsBelow, memberOf};
 ghost use Rattle.lexer.specs.Scan.{listOf};
 ghost use Rattle.judges.specs.Told.{Lowest, MemberShaped};
-ghost use Rattle.table.specs.Layout.{rowAddress, memberAddress, workSize};
-ghost use Rattle.table.specs.View.{cell as cellOf, memberIn, membersIn, rowIn, rowsIn};
-ghost use Rattle.table.specs.Only.{Only};
+ghost use Rattle.table.specs.Layout.{rowAddress, workSize};
+ghost use Rattle.table.specs.View.{cell as cellOf, membersIn, rowIn, rowsIn};
 ghost use Rattle.row_store.specs.Stored.{tagOf, Stored};
 use lexer::Numbers;
 use sheet_rules::Key;
