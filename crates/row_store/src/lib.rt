@@ -1,5 +1,6 @@
 // The row in progress: its members stored, and the tests that its lines still have to pass.
 ghost use mathlib.Core.Path.{_≡_};
+ghost use mathlib.Core.Bool.{_&&_};
 ghost use Prim.Native.Nat.{_≤_, _<_, _+_, suc};
 ghost use lib.Dec.{eqb};
 ghost use lib.ListN.{length};
