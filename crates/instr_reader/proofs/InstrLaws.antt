@@ -1,16 +1,16 @@
 -- Reading one instruction: a law for each exit. Assumes nothing.
-use Prim.Native.Nat.{ℕ, suc, _+_, _≤_, _<_}
+use Prim.Native.Nat.{ℕ, suc, _+_, _≤_}
 use native.Mathlib.Omega.{arith}
 use native.Mathlib.Numerals.{add-one}
 use mathlib.Core.Path.{_≡_, refl, sym, ap, ap₂, _∙_}
 use mathlib.Core.List.{List}
-use lib.ListN.{length, drop}
+use lib.ListN.{drop}
 use Rattle.sheet_rules.specs.declared.Key.{Key}
 use Rattle.sheet_rules.specs.declared.Reason.{Reason}
 use Rattle.sheet_rules.specs.declared.Reason.the-variants.{Malformed}
 use Rattle.sheet_rules.specs.Lines.{Line, linesOf}
 use Rattle.sheet_rules.specs.Sheet.{Instr}
-use Rattle.sheet_rules.specs.Reader.{good, bad, Read, got, refused, settle, one}
+use Rattle.sheet_rules.specs.Reader.{good, bad, got, refused, settle, one}
 use Rattle.sheet_rules.specs.FormLines.{instrOf, instrLine}
 use Rattle.lexer.specs.declared.Numbers.{Numbers}
 use Rattle.lexer.specs.declared.LineRead.{LineRead}
@@ -19,10 +19,9 @@ use Rattle.judges.specs.declared.LineJudged.{LineJudged}
 use Rattle.judges.specs.Told.{lineTold}
 use Rattle.judges.proofs.StrictLaws.{strict-instr, one-torn, one-line, Taken, line-taken}
 use Rattle.table.specs.Layout.{instrAddress}
-use Rattle.table.specs.View.{instrIn}
 use Rattle.table.proofs.ViewLaws.{only-refl}
 use Rattle.line_reader.specs.declared.Progress.{Progress}
-use Rattle.line_reader.specs.Told.{Room, readTold, Advanced}
+use Rattle.line_reader.specs.Told.{Room, Advanced}
 use Rattle.instr_reader.specs.Reads.{StoredInstr, InstrRead}
 
 settle-bad : (q : Reason) (ls : List Line) (n : ℕ) → settle {A = Instr} (bad q) ls n ≡ refused q n

@@ -1,9 +1,9 @@
 -- Reading a body's instructions: a law for each turn of the loop. Assumes nothing.
-use Prim.Native.Nat.{ℕ, zero, suc, _+_, _*_, _-_, _≤_, _<_, min}
+use Prim.Native.Nat.{ℕ, suc, _+_, _*_, _-_, _≤_, _<_}
 use native.Mathlib.Omega.{arith}
 use native.Mathlib.Numerals.{add-one}
 use native.Mathlib.Decide.{decLe}
-use mathlib.Core.Path.{_≡_, refl, sym, ap, ap₂, _∙_, subst}
+use mathlib.Core.Path.{_≡_, sym, ap, ap₂, _∙_, subst}
 use mathlib.Core.List.{List, [], _∷_, _++_}
 use lib.ListN.{length, drop, take}
 use Rattle.lists.specs.Tab.{tab}
@@ -11,14 +11,14 @@ use Rattle.lists.proofs.TabLaws.{tab-suc, tab-ext, length-tab}
 use Rattle.sheet_rules.specs.declared.Reason.{Reason}
 use Rattle.sheet_rules.specs.Lines.{Line, linesOf}
 use Rattle.sheet_rules.specs.Sheet.{Instr}
-use Rattle.sheet_rules.specs.Reader.{Read, got, refused, Reader, andThen, one, many}
+use Rattle.sheet_rules.specs.Reader.{got, refused, Reader, andThen, one, many}
 use Rattle.sheet_rules.specs.FormLines.{instrLine, readInstrs}
-use Rattle.table.specs.Layout.{instrAddress, workSize}
+use Rattle.table.specs.Layout.{instrAddress}
 use Rattle.table.specs.View.{cell, numbersIn, instrFrom, instrIn, instrsIn}
 use Rattle.table.specs.Only.{Only}
 use Rattle.table.proofs.ViewLaws.{SameFrom, only-refl, only-trans, only-widen}
 use Rattle.line_reader.specs.declared.Progress.{Progress}
-use Rattle.line_reader.specs.Told.{Room, readTold, Advanced}
+use Rattle.line_reader.specs.Told.{Room, Advanced}
 use Rattle.instr_reader.specs.Reads.{InstrRead, InstrsRead}
 
 -- an instruction depends on its eleven numbers alone

@@ -1,8 +1,8 @@
 -- Eleven numbers stored in the pool are an instruction. Assumes nothing.
-use Prim.Native.Nat.{ℕ, zero, suc, _+_, _*_, _≤_, _<_, min}
+use Prim.Native.Nat.{ℕ, zero, suc, _+_, _≤_, _<_}
 use native.Mathlib.Omega.{arith}
 use mathlib.Core.Path.{_≡_, refl, sym, ap, _∙_, subst}
-use mathlib.Core.List.{List, [], _∷_, _++_}
+use mathlib.Core.List.{List, [], _∷_}
 use lib.Dec.{lit≤}
 use lib.ListN.{length, getD, set, length-set, take}
 use lib.Seq.{getD-set-same, getD-set-other}
@@ -15,7 +15,7 @@ use Rattle.sheet_rules.specs.FormLines.{instrOf}
 use Rattle.lexer.specs.declared.Numbers.{Numbers}
 use Rattle.lexer.specs.Scan.{listOf}
 use Rattle.table.specs.Layout.{instrAddress, workSize}
-use Rattle.table.specs.View.{cell, numbersIn, instrFrom, instrIn}
+use Rattle.table.specs.View.{cell, instrFrom, instrIn}
 use Rattle.table.specs.Only.{Only}
 use Rattle.table.proofs.ViewLaws.{only-refl, only-set, only-trans}
 use Rattle.instr_reader.specs.Reads.{firstSix, lastFive, StoredInstr}

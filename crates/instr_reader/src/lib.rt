@@ -92,7 +92,7 @@ pub fn read_instrs(
     from: usize,
     first: u32,
 ) -> Progress
-    requires { ⌜ Room (now text) from first × (start + count ≤ 1024) × (filled + count ≤ 65535) × (workSize ≤ length (now work)) ⌝ }
+    requires { ⌜ Room (now text) from first × (start + count ≤ 1024) × (filled ≤ 64) × (workSize ≤ length (now work)) ⌝ }
     ensures { λ r. ⌜ InstrsRead (now (text .entry)) start count forms filled from first (now (work .entry)) (now (work .exit)) r ⌝ }
 {
     let mut j = 0;

@@ -1,5 +1,4 @@
-use mathlib.Core.Path.{_≡_, sym, _∙_}
-use native.Mathlib.Omega.{arith}
+use mathlib.Core.Path.{sym, _∙_}
 use Rattle.judges.proofs.StrictLaws.{line-taken}
 use Rattle.instr_reader.proofs.InstrLaws.{instr-torn, instr-refused, instr-kept}
 use borrow.Author.Needs.{needs}

@@ -1,7 +1,7 @@
 use borrow.Author.Needs.{needs}
 use native.Mathlib.Omega.{arith}
-use mathlib.Core.Path.{_≡_, _∙_}
-use Prim.Native.Nat.{ℕ, _+_, _-_, _≤_, _<_}
+use mathlib.Core.Path.{_∙_}
+use Prim.Native.Nat.{_-_}
 use Rattle.instr_reader.proofs.InstrsLaws.{Going, going-start, going-next-by, going-stop-by, going-end}
 use Rattle.instr_reader.proofs.read_instrs.Statement.{statement}
 use Rattle.instr_reader.proofs.read_instrs.Tie as tie
@@ -48,7 +48,7 @@ returns c =
 
 -- src/lib.rt:109:17
 add-slots : tie.Need-add-slots Inv-loop μ-loop
-add-slots c = omega (arith, c .before .before .before .before .before .before .before .before .loop .inv .counted, c .before .before .before .before .before .before .before .before .before .before .before .pre .2, c .before .before .before .before .before .before .before .loop-test .taken)
+add-slots c = omega (arith, c .before .before .before .before .before .before .before .before .loop .inv .counted, c .before .before .before .before .before .before .before .before .before .before .before .pre .1, c .before .before .before .before .before .before .before .before .before .before .before .pre .2, c .before .before .before .before .before .before .before .loop-test .taken)
 
 -- src/lib.rt:110:13
 add-j : tie.Need-add-j Inv-loop μ-loop

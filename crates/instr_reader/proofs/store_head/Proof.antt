@@ -66,16 +66,22 @@ returns : tie.Need-returns
 returns c =
     let ns = c .before .before .before .before .before .before .before .before .before .before .before .before .before .before .before .before .before .before .before .before .before .before .before .before .before .before .args .numbers in
     let at : ℕ = c .before .before .before .before .before .before .before .before .before .before .before .before .before .before .before .before .before .before .before .before .before .before .before .before .before .before .args .at in
+    let w1 : List ℕ = c .before .before .before .before .before .before .before .before .before .before .before .before .before .before .before .before .before .before .before .before .before .before .before .put .last .0 in
+    let w2 : List ℕ = c .before .before .before .before .before .before .before .before .before .before .before .before .before .before .before .before .before .before .put2 .last .0 in
+    let w3 : List ℕ = c .before .before .before .before .before .before .before .before .before .before .before .before .before .before .put3 .last .0 in
+    let w4 : List ℕ = c .before .before .before .before .before .before .before .before .before .before .put4 .last .0 in
+    let w5 : List ℕ = c .before .before .before .before .before .before .put5 .last .0 in
+    let e1 : w1 ≡ set (c .before .before .before .before .before .before .before .before .before .before .before .before .before .before .before .before .before .before .before .before .before .before .before .before .before .before .args .work .now) at (c .before .before .before .before .before .before .before .before .before .before .before .before .before .before .before .before .before .before .before .before .before .before .before .before .before .before .args .code) = c .before .before .before .before .before .before .before .before .before .before .before .before .before .before .before .before .before .before .before .before .before .before .before .put .ensures in
+    let e2 : w2 ≡ set w1 (at + 1) (ns .count) = c .before .before .before .before .before .before .before .before .before .before .before .before .before .before .before .before .before .before .put2 .ensures in
+    let e3 : w3 ≡ set w2 (at + 2) (ns .n0) = c .before .before .before .before .before .before .before .before .before .before .before .before .before .before .put3 .ensures in
+    let e4 : w4 ≡ set w3 (at + 3) (ns .n1) = c .before .before .before .before .before .before .before .before .before .before .put4 .ensures in
+    let e5 : w5 ≡ set w4 (at + 4) (ns .n2) = c .before .before .before .before .before .before .put5 .ensures in
     c .before .before .put6 .ensures
-    ∙ ap (λ (x : List ℕ). set x (at + 5) (ns .n3))
-    (c .before .before .before .before .before .before .put5 .ensures
-    ∙ ap (λ (x : List ℕ). set x (at + 4) (ns .n2))
-    (c .before .before .before .before .before .before .before .before .before .before .put4 .ensures
-    ∙ ap (λ (x : List ℕ). set x (at + 3) (ns .n1))
-    (c .before .before .before .before .before .before .before .before .before .before .before .before .before .before .put3 .ensures
-    ∙ ap (λ (x : List ℕ). set x (at + 2) (ns .n0))
-    (c .before .before .before .before .before .before .before .before .before .before .before .before .before .before .before .before .before .before .put2 .ensures
-    ∙ ap (λ (x : List ℕ). set x (at + 1) (ns .count)) (c .before .before .before .before .before .before .before .before .before .before .before .before .before .before .before .before .before .before .before .before .before .before .before .put .ensures)))))
+    ∙ ap (λ (x : List ℕ). set x (at + 5) (ns .n3)) e5
+    ∙ ap (λ (x : List ℕ). set (set x (at + 4) (ns .n2)) (at + 5) (ns .n3)) e4
+    ∙ ap (λ (x : List ℕ). set (set (set x (at + 3) (ns .n1)) (at + 4) (ns .n2)) (at + 5) (ns .n3)) e3
+    ∙ ap (λ (x : List ℕ). set (set (set (set x (at + 2) (ns .n0)) (at + 3) (ns .n1)) (at + 4) (ns .n2)) (at + 5) (ns .n3)) e2
+    ∙ ap (λ (x : List ℕ). set (set (set (set (set x (at + 1) (ns .count)) (at + 2) (ns .n0)) (at + 3) (ns .n1)) (at + 4) (ns .n2)) (at + 5) (ns .n3)) e1
 
 pub store-head-spec : {M : Type 1} → statement M
 store-head-spec =
