@@ -1,0 +1,41 @@
+-- What reading instructions into the table ensures. Stands on reading, the table's view, and the readers of lines.
+use Prim.Native.Nat.{ℕ, _+_, _*_}
+use mathlib.Core.Path.{_≡_}
+use mathlib.Core.List.{List}
+use lib.ListN.{set, drop}
+use Rattle.sheet_rules.specs.Lines.{linesOf}
+use Rattle.sheet_rules.specs.Sheet.{Instr}
+use Rattle.sheet_rules.specs.Reader.{one}
+use Rattle.sheet_rules.specs.FormLines.{instrLine, readInstrs}
+use Rattle.lexer.specs.declared.Numbers.{Numbers}
+use Rattle.table.specs.Layout.{instrAddress}
+use Rattle.table.specs.View.{instrIn, instrsIn}
+use Rattle.table.specs.Only.{Only}
+use Rattle.line_reader.specs.declared.Progress.{Progress}
+use Rattle.line_reader.specs.Told.{readTold, Advanced}
+
+-- the eleven numbers of an instruction, from a place on: its key's code, its number count, and nine numbers
+abbrev pub firstSix : List ℕ → ℕ → ℕ → Numbers → List ℕ
+firstSix w at code ns =
+    set (set (set (set (set (set w at code) (at + 1) (ns .count)) (at + 2) (ns .n0)) (at + 3) (ns .n1)) (at + 4) (ns .n2)) (at + 5) (ns .n3)
+
+abbrev pub lastFive : List ℕ → ℕ → Numbers → List ℕ
+lastFive w at ns =
+    set (set (set (set (set w (at + 6) (ns .n4)) (at + 7) (ns .n5)) (at + 8) (ns .n6)) (at + 9) (ns .n7)) (at + 10) (ns .n8)
+
+-- instruction p of the pool is now this one, and nothing else has changed
+pub record StoredInstr (p : ℕ) (i : Instr) (w w′ : List ℕ) : Type 0 where
+  pub holds : instrIn w′ p ≡ i
+  pub only : Only (instrAddress p) (instrAddress p + 11) w w′
+
+-- one instruction, read
+pub record InstrRead (text : List ℕ) (p forms filled at n : ℕ) (w w′ : List ℕ) (r : Progress) : Type 0 where
+  pub told : readTold text r (instrIn w′ p) ≡ one (instrLine forms filled) (linesOf (drop at text)) n
+  pub only : Only (instrAddress p) (instrAddress p + 11) w w′
+  pub advanced : Advanced text at r
+
+-- a body's instructions, read; nothing else has changed
+pub record InstrsRead (text : List ℕ) (start count forms filled at n : ℕ) (w w′ : List ℕ) (r : Progress) : Type 0 where
+  pub told : readTold text r (instrsIn w′ start count) ≡ readInstrs forms filled count (linesOf (drop at text)) n
+  pub only : Only (instrAddress start) (instrAddress start + 11 * count) w w′
+  pub advanced : Advanced text at r

@@ -1,0 +1,113 @@
+// Instruction lines, read into the pool of the table.
+ghost use mathlib.Core.Path.{_≡_};
+ghost use Prim.Native.Nat.{_≤_, _<_, _+_};
+ghost use lib.ListN.{length};
+ghost use Rattle.sheet_rules.specs.FormLines.{instrOf};
+ghost use Rattle.lexer.specs.Scan.{listOf};
+ghost use Rattle.table.specs.Layout.{workSize};
+ghost use Rattle.line_reader.specs.Told.{Room};
+ghost use Rattle.instr_reader.specs.Reads.{firstSix, lastFive, StoredInstr, InstrRead, InstrsRead};
+use judges::LineJudged;
+use lexer::LineRead;
+use lexer::Numbers;
+use line_reader::Progress;
+use sheet_rules::Key;
+use sheet_rules::Reason;
+
+// An instruction's first six numbers: its key's code, its number count, and the numbers 0 to 3.
+fn store_head(work: &mut [u16], at: usize, code: u16, numbers: Numbers)
+    requires { ⌜ (at + 11 ≤ length (now work)) × (numbers .count ≤ 9) ⌝ }
+    ensures { λ r. ⌜ now (work .exit) ≡ firstSix (now (work .entry)) at code numbers ⌝ }
+{
+    table::put(work, at, code);
+    table::put(work, at + 1, numbers.count as u16);
+    table::put(work, at + 2, numbers.n0);
+    table::put(work, at + 3, numbers.n1);
+    table::put(work, at + 4, numbers.n2);
+    table::put(work, at + 5, numbers.n3);
+}
+
+// An instruction's last five numbers: the numbers 4 to 8.
+fn store_tail(work: &mut [u16], at: usize, numbers: Numbers)
+    requires { ⌜ at + 11 ≤ length (now work) ⌝ }
+    ensures { λ r. ⌜ now (work .exit) ≡ lastFive (now (work .entry)) at numbers ⌝ }
+{
+    table::put(work, at + 6, numbers.n4);
+    table::put(work, at + 7, numbers.n5);
+    table::put(work, at + 8, numbers.n6);
+    table::put(work, at + 9, numbers.n7);
+    table::put(work, at + 10, numbers.n8);
+}
+
+// Stores an instruction line as instruction p of the pool.
+fn store_instr(work: &mut [u16], p: usize, key: Key, numbers: Numbers)
+    requires { ⌜ (p < 1024) × (numbers .count ≤ 9) × (workSize ≤ length (now work)) ⌝ }
+    ensures { λ r. ⌜ StoredInstr p (instrOf key (listOf numbers)) (now (work .entry)) (now (work .exit)) ⌝ }
+{
+    let facts = judges::key_facts(key);
+    let at = 4624 + 11 * p;
+    store_head(work, at, facts.code as u16, numbers);
+    store_tail(work, at, numbers);
+}
+
+// Instruction p of the pool, read from a place of the text, with so many slots filled.
+fn read_instr(
+    text: &[u8],
+    work: &mut [u16],
+    p: usize,
+    forms: u16,
+    filled: u16,
+    at: usize,
+    line: u32,
+) -> Progress
+    requires { ⌜ Room (now text) at line × (p < 1024) × (workSize ≤ length (now work)) ⌝ }
+    ensures { λ r. ⌜ InstrRead (now (text .entry)) p forms filled at line (now (work .entry)) (now (work .exit)) r ⌝ }
+{
+    let LineRead::Line { key, numbers, next } = lexer::read_line(text, at) else {
+        return Progress::Refused {
+            reason: Reason::Malformed,
+            line,
+        };
+    };
+    match instr_judge::instr_line(forms, filled, key, numbers) {
+        LineJudged::Good => {
+            store_instr(work, p, key, numbers);
+            Progress::Moved {
+                at: next,
+                line: line + 1,
+            }
+        }
+        LineJudged::Refused { reason } => Progress::Refused { reason, line },
+    }
+}
+
+// A body's instructions, from a place of the pool on. The first has so many slots filled, and each fills one more.
+pub fn read_instrs(
+    text: &[u8],
+    work: &mut [u16],
+    start: usize,
+    count: usize,
+    forms: u16,
+    filled: u16,
+    from: usize,
+    first: u32,
+) -> Progress
+    requires { ⌜ Room (now text) from first × (start + count ≤ 1024) × (filled ≤ 64) × (workSize ≤ length (now work)) ⌝ }
+    ensures { λ r. ⌜ InstrsRead (now (text .entry)) start count forms filled from first (now (work .entry)) (now (work .exit)) r ⌝ }
+{
+    let mut j = 0;
+    let mut slots = filled;
+    let mut at = from;
+    let mut line = first;
+    while j < count {
+        let r = read_instr(text, work, start + j, forms, slots, at, line);
+        let Progress::Moved { at: a, line: l } = r else {
+            return r;
+        };
+        at = a;
+        line = l;
+        slots = slots + 1;
+        j = j + 1;
+    }
+    Progress::Moved { at, line }
+}
