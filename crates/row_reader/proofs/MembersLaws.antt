@@ -9,9 +9,9 @@ use Rattle.lists.specs.Tab.{tab}
 use Rattle.lists.proofs.TabLaws.{tab-suc, tab-ext}
 use Rattle.sheet_rules.specs.declared.Member.{Member}
 use Rattle.sheet_rules.specs.declared.Reason.{Reason}
-use Rattle.sheet_rules.specs.Lines.{Line, linesOf}
+use Rattle.sheet_rules.specs.Lines.{linesOf}
 use Rattle.sheet_rules.specs.Sheet.{Row}
-use Rattle.sheet_rules.specs.Reader.{Read, got, refused, Reader, andThen, one, many}
+use Rattle.sheet_rules.specs.Reader.{got, Reader, one, many}
 use Rattle.sheet_rules.specs.RowLines.{Heading, kindOf, memberLine}
 use Rattle.table.specs.Layout.{rowAddress, memberAddress}
 use Rattle.table.specs.View.{cell, memberIn, membersIn, rowIn, rowsIn}
@@ -19,26 +19,9 @@ use Rattle.table.specs.Only.{Only}
 use Rattle.table.proofs.ViewLaws.{only-refl, only-trans, only-widen, row-other}
 use Rattle.line_reader.specs.declared.Progress.{Progress}
 use Rattle.line_reader.specs.Told.{Room, readTold, Advanced}
+use Rattle.line_reader.proofs.ProgressLaws.{many-got, many-refused, advanced-later, advanced-room}
 use Rattle.row_reader.specs.Reads.{headingIn, Headed, InRow, MemberRead, MembersRead}
 use Rattle.row_reader.proofs.KeepLaws.{members-before}
-
--- k items more, where the first is read or refused
-pub many-got : {A : Type 0} (k : ℕ) (item : List A → Reader A) (before : List A) (ls : List Line) (n : ℕ) (a : A) (ls′ : List Line) (n′ : ℕ)
-    → got a ls′ n′ ≡ item before ls n → many (suc k) item before ls n ≡ many k item (before ++ (a ∷ [])) ls′ n′
-unfolding many andThen
-many-got k item before ls n a ls′ n′ e = ap (λ x. andThen x (λ a. many k item (before ++ (a ∷ [])))) (sym e)
-
-pub many-refused : {A : Type 0} (k : ℕ) (item : List A → Reader A) (before : List A) (ls : List Line) (n : ℕ) (q : Reason) (n′ : ℕ)
-    → refused q n′ ≡ item before ls n → many (suc k) item before ls n ≡ refused q n′
-unfolding many andThen
-many-refused k item before ls n q n′ e = ap (λ x. andThen x (λ a. many k item (before ++ (a ∷ [])))) (sym e)
-
--- what it means to have moved on
-pub advanced-later : {text : List ℕ} {at at′ n : ℕ} → Advanced text at (Progress.Moved at′ n) → at ≤ at′
-advanced-later (Advanced.moved l r) = l
-
-pub advanced-room : {text : List ℕ} {at at′ n : ℕ} → Advanced text at (Progress.Moved at′ n) → Room text at′ n
-advanced-room (Advanced.moved l r) = r
 
 module _ (text : List ℕ) (i count from first : ℕ) (w₀ : List ℕ) where
   -- the rule's item, for the row's heading and the rows before it

@@ -19,7 +19,7 @@ use Rattle.table.proofs.ViewLaws.{only-refl, only-trans, only-widen, row-other}
 use Rattle.line_reader.specs.declared.Progress.{Progress}
 use Rattle.line_reader.specs.Told.{Room, readTold, Advanced}
 use Rattle.row_reader.specs.Reads.{RowRead, RowsRead}
-use Rattle.row_reader.proofs.MembersLaws.{many-got, many-refused, advanced-later, advanced-room}
+use Rattle.line_reader.proofs.ProgressLaws.{many-got, many-refused, advanced-later, advanced-room}
 
 module _ (text : List ℕ) (count from first : ℕ) (w₀ : List ℕ) where
   -- what holds where the loop stands
