@@ -12,6 +12,7 @@ use Rattle.sheet_rules.specs.Reader.{got, one, existingLine}
 use Rattle.table.specs.Layout.{keepAddress, workSize}
 use Rattle.table.specs.View.{cell}
 use Rattle.table.proofs.ViewLaws.{only-refl, only-set}
+use Rattle.table.proofs.FormLaws.{keep-address}
 use Rattle.line_reader.specs.declared.NumberLine.{NumberLine}
 use Rattle.line_reader.specs.declared.Progress.{Progress}
 use Rattle.line_reader.specs.Told.{numberRead, Onward, Advanced}
@@ -33,7 +34,7 @@ module _ (text : List ℕ) (f j rows at n : ℕ) (w : List ℕ) (p : NumberLine)
       })
     where
       stored : w′ ≡ set w (keepAddress f j) v
-      stored = let place : 2320 + 36 * f + (3 + j) ≡ keepAddress f j = omega arith in s ∙ ap (λ (a : ℕ). set w a v) place
+      stored = s ∙ ap (λ (a : ℕ). set w a v) (keep-address f j hf hj)
 
       onward : (x a l : ℕ) → Onward text at n (NumberLine.Number x a l) → Advanced text at (Progress.Moved a l)
       onward x a l (Onward.moved h r) = let k : at ≤ a = omega arith in Advanced.moved k r
