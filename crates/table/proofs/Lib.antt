@@ -1,2 +1,3 @@
 pub mod ViewLaws
 pub mod RowLaws
+pub mod FormLaws

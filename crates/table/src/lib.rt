@@ -4,6 +4,7 @@ ghost use mathlib.Core.Path.{_≡_};
 ghost use lib.ListN.{set};
 ghost use Rattle.table.specs.View.{cell as cellOf};
 
+pub mod forms;
 pub mod rows;
 
 // The number at a place; 0 past the end.

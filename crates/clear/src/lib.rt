@@ -1,0 +1,18 @@
+// Clearing the work buffer, before a sheet is read into it.
+ghost use mathlib.Core.Path.{_≡_};
+ghost use Prim.Native.Nat.{_≤_};
+ghost use lib.ListN.{length};
+ghost use Rattle.clear.specs.Cleared.{cleared};
+ghost use Rattle.table.specs.Layout.{workSize};
+
+// Sets the buffer's first 32,768 numbers to 0.
+pub fn clear(work: &mut [u16])
+    requires { ⌜ workSize ≤ length (now work) ⌝ }
+    ensures { λ r. ⌜ now (work .exit) ≡ cleared (now (work .entry)) ⌝ }
+{
+    let mut i: usize = 0;
+    while i < 32768 {
+        work[i] = 0;
+        i = i + 1;
+    }
+}

@@ -1,0 +1,33 @@
+use mathlib.Core.Path.{ap, _∙_}
+use Prim.Native.Nat.{ℕ, _+_}
+use Rattle.table.specs.View.{cell}
+use Rattle.table.proofs.FormLaws.{instr-address}
+use borrow.Author.Needs.{needs}
+use Rattle.table.proofs.forms.instr_count.Statement.{statement}
+use Rattle.table.proofs.forms.instr_count.Tie as tie
+use Rattle.table.proofs.forms.instr_count.Reads as reads
+use Rattle.table.proofs.forms.instr_count.Lts as lts
+use Rattle.table.proofs.forms.number.Reads as number-reads
+
+-- src/forms.rt:86:25
+mul-number : tie.Need-mul-number
+mul-number c = search needs
+
+-- src/forms.rt:86:18
+add-number : tie.Need-add-number
+add-number c = search needs
+
+-- src/forms.rt:86:18
+add-number-2 : tie.Need-add-number-2
+add-number-2 c = search needs
+
+-- src/forms.rt:86:5
+number-requires : tie.Need-number-requires
+number-requires c κs = search needs
+
+-- src/forms.rt:82:1
+returns : tie.Need-returns
+returns c = c .number .ensures ∙ ap (λ (n : ℕ). cell (c .before .before .args .work .now) (n + 1)) (instr-address (c .before .before .args .p) (c .before .before .pre .0))
+
+pub instr-count-spec : {M : Type 1} → statement M
+instr-count-spec = tie.close (tie.spec mul-number add-number add-number-2 number-requires returns)

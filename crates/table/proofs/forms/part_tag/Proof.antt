@@ -1,0 +1,42 @@
+use mathlib.Core.Path.{ap, _∙_}
+use Rattle.table.specs.View.{cell}
+use Rattle.table.proofs.FormLaws.{part-address}
+use borrow.Author.Needs.{needs}
+use Rattle.table.proofs.forms.part_tag.Statement.{statement}
+use Rattle.table.proofs.forms.part_tag.Tie as tie
+use Rattle.table.proofs.forms.part_tag.Reads as reads
+use Rattle.table.proofs.forms.part_tag.Lts as lts
+use Rattle.table.proofs.forms.number.Reads as number-reads
+
+-- src/forms.rt:54:25
+mul-number : tie.Need-mul-number
+mul-number c = search needs
+
+-- src/forms.rt:54:18
+add-number : tie.Need-add-number
+add-number c = search needs
+
+-- src/forms.rt:54:40
+mul-number-2 : tie.Need-mul-number-2
+mul-number-2 c = search needs
+
+-- src/forms.rt:54:35
+add-number-2 : tie.Need-add-number-2
+add-number-2 c = search needs
+
+-- src/forms.rt:54:18
+add-number-3 : tie.Need-add-number-3
+add-number-3 c = search needs
+
+-- src/forms.rt:54:5
+number-requires : tie.Need-number-requires
+number-requires c κs = search needs
+
+-- src/forms.rt:50:1
+returns : tie.Need-returns
+returns c = c .number .ensures ∙ ap (cell (c .before .before .args .work .now)) (part-address (c .before .before .args .f) (c .before .before .args .j) (c .before .before .pre .0) (c .before .before .pre .1))
+
+pub part-tag-spec : {M : Type 1} → statement M
+part-tag-spec =
+    tie.close
+    (tie.spec mul-number add-number mul-number-2 add-number-2 add-number-3 number-requires returns)
