@@ -2,8 +2,7 @@
 use Prim.Native.Nat.{ℕ, _+_, _*_}
 use mathlib.Core.Path.{_≡_}
 use mathlib.Core.List.{List}
-use lib.ListN.{set, drop}
-use Rattle.sheet_rules.specs.Lines.{linesOf}
+use lib.ListN.{set}
 use Rattle.sheet_rules.specs.Sheet.{Instr}
 use Rattle.sheet_rules.specs.Reader.{one}
 use Rattle.sheet_rules.specs.FormLines.{instrLine, readInstrs}
@@ -12,7 +11,7 @@ use Rattle.table.specs.Layout.{instrAddress}
 use Rattle.table.specs.View.{instrIn, instrsIn}
 use Rattle.table.specs.Only.{Only}
 use Rattle.line_reader.specs.declared.Progress.{Progress}
-use Rattle.line_reader.specs.Told.{readTold, Advanced}
+use Rattle.read_loop.specs.Items.{ItemRead}
 
 -- the eleven numbers of an instruction, from a place on: its key's code, its number count, and nine numbers
 abbrev pub firstSix : List ℕ → ℕ → ℕ → Numbers → List ℕ
@@ -29,13 +28,11 @@ pub record StoredInstr (p : ℕ) (i : Instr) (w w′ : List ℕ) : Type 0 where
   pub only : Only (instrAddress p) (instrAddress p + 11) w w′
 
 -- one instruction, read
-pub record InstrRead (text : List ℕ) (p forms filled at n : ℕ) (w w′ : List ℕ) (r : Progress) : Type 0 where
-  pub told : readTold text r (instrIn w′ p) ≡ one (instrLine forms filled) (linesOf (drop at text)) n
-  pub only : Only (instrAddress p) (instrAddress p + 11) w w′
-  pub advanced : Advanced text at r
+abbrev pub InstrRead : List ℕ → (p forms filled at n : ℕ) → (w w′ : List ℕ) → Progress → Type 0
+InstrRead text p forms filled at n w w′ r =
+    ItemRead text (one (instrLine forms filled)) (λ x. instrIn x p) (instrAddress p) (instrAddress p + 11) at n w w′ r
 
 -- a body's instructions, read; nothing else has changed
-pub record InstrsRead (text : List ℕ) (start count forms filled at n : ℕ) (w w′ : List ℕ) (r : Progress) : Type 0 where
-  pub told : readTold text r (instrsIn w′ start count) ≡ readInstrs forms filled count (linesOf (drop at text)) n
-  pub only : Only (instrAddress start) (instrAddress start + 11 * count) w w′
-  pub advanced : Advanced text at r
+abbrev pub InstrsRead : List ℕ → (start count forms filled at n : ℕ) → (w w′ : List ℕ) → Progress → Type 0
+InstrsRead text start count forms filled at n w w′ r =
+    ItemRead text (readInstrs forms filled count) (λ x. instrsIn x start count) (instrAddress start) (instrAddress start + 11 * count) at n w w′ r

@@ -10,7 +10,6 @@ use Rattle.sheet_rules.specs.declared.Reason.{Reason}
 use Rattle.sheet_rules.specs.Lines.{linesOf}
 use Rattle.sheet_rules.specs.Reader.{got, one, existingLine}
 use Rattle.table.specs.Layout.{keepAddress, workSize}
-use Rattle.table.specs.View.{cell}
 use Rattle.table.proofs.ViewLaws.{only-refl, only-set}
 use Rattle.table.proofs.FormLaws.{keep-address}
 use Rattle.line_reader.specs.declared.NumberLine.{NumberLine}

@@ -5,8 +5,6 @@ use Rattle.table.specs.Layout.{workSize}
 use Rattle.clear.proofs.ClearLaws.{Going, going-start, going-size, going-next, going-end}
 use Rattle.clear.proofs.clear.Statement.{statement}
 use Rattle.clear.proofs.clear.Tie as tie
-use Rattle.clear.proofs.clear.Reads as reads
-use Rattle.clear.proofs.clear.Lts as lts
 
 abbrev Inv-loop : tie.InvT-loop
 Inv-loop work₀ i₀ work i = Going work₀ work i

@@ -4,11 +4,6 @@ use Rattle.instr_reader.proofs.InstrLaws.{instr-torn, instr-refused, in
 use borrow.Author.Needs.{needs}
 use Rattle.instr_reader.proofs.read_instr.Statement.{statement}
 use Rattle.instr_reader.proofs.read_instr.Tie as tie
-use Rattle.instr_reader.proofs.read_instr.Reads as reads
-use Rattle.instr_reader.proofs.read_instr.Lts as lts
-use Rattle.instr_judge.proofs.instr_line.Reads as instr-line-reads
-use Rattle.instr_reader.proofs.store_instr.Reads as store-instr-reads
-use Rattle.lexer.proofs.read_line.Reads as read-line-reads
 
 -- src/lib.rt:66:49
 read-line-requires : tie.Need-read-line-requires

@@ -5,9 +5,6 @@ use Prim.Native.Nat.{ℕ, _+_}
 use borrow.Author.Needs.{needs}
 use Rattle.instr_reader.proofs.store_head.Statement.{statement}
 use Rattle.instr_reader.proofs.store_head.Tie as tie
-use Rattle.instr_reader.proofs.store_head.Reads as reads
-use Rattle.instr_reader.proofs.store_head.Lts as lts
-use Rattle.table.proofs.put.Reads as put-reads
 
 -- src/lib.rt:22:5
 put-requires : tie.Need-put-requires

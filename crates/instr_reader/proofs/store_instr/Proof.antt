@@ -11,11 +11,6 @@ use Rattle.instr_reader.proofs.StoreLaws.{stored-eleven, code-small}
 use borrow.Author.Needs.{needs}
 use Rattle.instr_reader.proofs.store_instr.Statement.{statement}
 use Rattle.instr_reader.proofs.store_instr.Tie as tie
-use Rattle.instr_reader.proofs.store_instr.Reads as reads
-use Rattle.instr_reader.proofs.store_instr.Lts as lts
-use Rattle.instr_reader.proofs.store_head.Reads as store-head-reads
-use Rattle.instr_reader.proofs.store_tail.Reads as store-tail-reads
-use Rattle.judges.proofs.key_facts.Reads as key-facts-reads
 
 -- src/lib.rt:47:9
 key-facts-requires : tie.Need-key-facts-requires

@@ -5,9 +5,6 @@ use Prim.Native.Nat.{ℕ, _+_}
 use borrow.Author.Needs.{needs}
 use Rattle.instr_reader.proofs.store_tail.Statement.{statement}
 use Rattle.instr_reader.proofs.store_tail.Tie as tie
-use Rattle.instr_reader.proofs.store_tail.Reads as reads
-use Rattle.instr_reader.proofs.store_tail.Lts as lts
-use Rattle.table.proofs.put.Reads as put-reads
 
 -- src/lib.rt:35:22
 add-put : tie.Need-add-put

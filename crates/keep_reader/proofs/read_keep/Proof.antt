@@ -2,10 +2,6 @@ use Rattle.keep_reader.proofs.KeepLaws.{keep-read, keep-refused}
 use borrow.Author.Needs.{needs}
 use Rattle.keep_reader.proofs.read_keep.Statement.{statement}
 use Rattle.keep_reader.proofs.read_keep.Tie as tie
-use Rattle.keep_reader.proofs.read_keep.Reads as reads
-use Rattle.keep_reader.proofs.read_keep.Lts as lts
-use Rattle.line_reader.proofs.read_existing.Reads as read-existing-reads
-use Rattle.table.proofs.put.Reads as put-reads
 
 -- src/lib.rt:25:11
 read-existing-requires : tie.Need-read-existing-requires

@@ -4,9 +4,6 @@ use Rattle.table.proofs.FormLaws.{form-address}
 use borrow.Author.Needs.{needs}
 use Rattle.table.proofs.forms.form_row.Statement.{statement}
 use Rattle.table.proofs.forms.form_row.Tie as tie
-use Rattle.table.proofs.forms.form_row.Reads as reads
-use Rattle.table.proofs.forms.form_row.Lts as lts
-use Rattle.table.proofs.forms.number.Reads as number-reads
 
 -- src/forms.rt:22:25
 mul-number : tie.Need-mul-number

@@ -4,9 +4,6 @@ use Rattle.table.proofs.FormLaws.{instr-address}
 use borrow.Author.Needs.{needs}
 use Rattle.table.proofs.forms.instr_code.Statement.{statement}
 use Rattle.table.proofs.forms.instr_code.Tie as tie
-use Rattle.table.proofs.forms.instr_code.Reads as reads
-use Rattle.table.proofs.forms.instr_code.Lts as lts
-use Rattle.table.proofs.forms.number.Reads as number-reads
 
 -- src/forms.rt:78:25
 mul-number : tie.Need-mul-number

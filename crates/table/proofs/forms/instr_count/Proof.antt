@@ -5,9 +5,6 @@ use Rattle.table.proofs.FormLaws.{instr-address}
 use borrow.Author.Needs.{needs}
 use Rattle.table.proofs.forms.instr_count.Statement.{statement}
 use Rattle.table.proofs.forms.instr_count.Tie as tie
-use Rattle.table.proofs.forms.instr_count.Reads as reads
-use Rattle.table.proofs.forms.instr_count.Lts as lts
-use Rattle.table.proofs.forms.number.Reads as number-reads
 
 -- src/forms.rt:86:25
 mul-number : tie.Need-mul-number

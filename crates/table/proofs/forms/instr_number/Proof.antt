@@ -5,9 +5,6 @@ use Rattle.table.proofs.FormLaws.{instr-address}
 use borrow.Author.Needs.{needs}
 use Rattle.table.proofs.forms.instr_number.Statement.{statement}
 use Rattle.table.proofs.forms.instr_number.Tie as tie
-use Rattle.table.proofs.forms.instr_number.Reads as reads
-use Rattle.table.proofs.forms.instr_number.Lts as lts
-use Rattle.table.proofs.forms.number.Reads as number-reads
 
 -- src/forms.rt:94:25
 mul-number : tie.Need-mul-number

@@ -4,9 +4,6 @@ use Rattle.table.proofs.FormLaws.{keep-address}
 use borrow.Author.Needs.{needs}
 use Rattle.table.proofs.forms.keep.Statement.{statement}
 use Rattle.table.proofs.forms.keep.Tie as tie
-use Rattle.table.proofs.forms.keep.Reads as reads
-use Rattle.table.proofs.forms.keep.Lts as lts
-use Rattle.table.proofs.forms.number.Reads as number-reads
 
 -- src/forms.rt:38:25
 mul-number : tie.Need-mul-number

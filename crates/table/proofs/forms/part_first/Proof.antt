@@ -5,9 +5,6 @@ use Rattle.table.proofs.FormLaws.{part-address}
 use borrow.Author.Needs.{needs}
 use Rattle.table.proofs.forms.part_first.Statement.{statement}
 use Rattle.table.proofs.forms.part_first.Tie as tie
-use Rattle.table.proofs.forms.part_first.Reads as reads
-use Rattle.table.proofs.forms.part_first.Lts as lts
-use Rattle.table.proofs.forms.number.Reads as number-reads
 
 -- src/forms.rt:62:25
 mul-number : tie.Need-mul-number

@@ -5,9 +5,6 @@ use Rattle.table.proofs.FormLaws.{part-address}
 use borrow.Author.Needs.{needs}
 use Rattle.table.proofs.forms.part_second.Statement.{statement}
 use Rattle.table.proofs.forms.part_second.Tie as tie
-use Rattle.table.proofs.forms.part_second.Reads as reads
-use Rattle.table.proofs.forms.part_second.Lts as lts
-use Rattle.table.proofs.forms.number.Reads as number-reads
 
 -- src/forms.rt:70:25
 mul-number : tie.Need-mul-number

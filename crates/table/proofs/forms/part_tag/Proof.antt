@@ -4,9 +4,6 @@ use Rattle.table.proofs.FormLaws.{part-address}
 use borrow.Author.Needs.{needs}
 use Rattle.table.proofs.forms.part_tag.Statement.{statement}
 use Rattle.table.proofs.forms.part_tag.Tie as tie
-use Rattle.table.proofs.forms.part_tag.Reads as reads
-use Rattle.table.proofs.forms.part_tag.Lts as lts
-use Rattle.table.proofs.forms.number.Reads as number-reads
 
 -- src/forms.rt:54:25
 mul-number : tie.Need-mul-number
