@@ -10,56 +10,58 @@ use Rattle.sheet_rules.specs.declared.Kind.the-variants.{Pure, Resource}
 use Rattle.sheet_rules.specs.Sheet.{Sheet, rowOfForm}
 use Rattle.machine_rules.specs.State.{Object, Frame, State, objectAt}
 
--- main's number as a holder
+-- main's number as a holder (Who holds what)
 abbrev pub mainHolder : ℕ
 mainHolder = 256
 
+-- a kind is resource (Who holds what)
 abbrev pub isResourceKind : Kind → Bool
 isResourceKind Pure = false
 isResourceKind Resource = true
 
--- o is an object, and of a resource row
+-- o is an object, and of a resource row (Who holds what)
 unfoldable pub isResource : Sheet → List Object → ℕ → Bool
 isResource s os o = ltb o (length os) && isResourceKind ((rowOfForm s ((objectAt os o) .form)) .kind)
 
--- a holder is main or a resource object
+-- a holder is main or a resource object (Who holds what)
 abbrev pub isHolder : Sheet → State → ℕ → Bool
 isHolder s σ h = eqb h mainHolder || isResource s (σ .objects) h
 
--- all frames of a state, from the top down
+-- all frames of a state, from the top down (Who holds what)
 abbrev pub frames : State → List Frame
 frames σ = σ .top ∷ σ .below
 
 -- whose a frame is, given the holder of the frame beneath: its receiver's if that is a resource; main's if it is main's;
--- a pure receiver's frame belongs to the holder beneath
+-- a pure receiver's frame belongs to the holder beneath (Who holds what)
 abbrev pub frameHolder : Sheet → List Object → Option ℕ → ℕ → ℕ
 frameHolder s os none beneath = mainHolder
 frameHolder s os (some o) beneath = cond (isResource s os o) o beneath
 
--- the holder of the first of some frames, the others lying beneath it
+-- the holder of the first of some frames, the others lying beneath it (Who holds what)
 unfoldable pub holderOf : Sheet → List Object → List Frame → ℕ
 holderOf s os [] = mainHolder
 holderOf s os (f ∷ fs) = frameHolder s os (f .own) (holderOf s os fs)
 
--- the holder of the top frame
+-- the holder of the top frame (Who holds what)
 abbrev pub topHolder : Sheet → State → ℕ
 topHolder s σ = holderOf s (σ .objects) (frames σ)
 
--- what a frame adds to h's slots: all its filled slots if it belongs to h
+-- what a frame adds to h's slots: all its filled slots if it belongs to h (Who holds what)
 abbrev pub slotsIf : Bool → List ℕ → List ℕ
 slotsIf true slots = slots
 slotsIf false slots = []
 
--- the filled slots of those frames that belong to h
+-- the filled slots of those frames that belong to h (Who holds what)
 unfoldable pub slotsOf : Sheet → List Object → ℕ → List Frame → List ℕ
 slotsOf s os h [] = []
 slotsOf s os h (f ∷ fs) = slotsIf (eqb (holderOf s os (f ∷ fs)) h) (f .slots) ++ slotsOf s os h fs
 
--- what an object adds to its own authority as a holder: itself, its kept values and its fields
+-- what an object adds to its own authority as a holder: itself, its kept values and its fields (Who holds what)
 abbrev pub ownValues : ℕ → Object → List ℕ
 ownValues h o = h ∷ (o .kept ++ o .fields)
 
 -- what h can reach: main only the slots of its frames; a resource object also what is its own; any other number nothing
+-- (Who holds what)
 unfoldable pub reached : Sheet → State → ℕ → List ℕ
 reached s σ h =
     cond (eqb h mainHolder) (slotsOf s (σ .objects) h (frames σ))
@@ -67,24 +69,25 @@ reached s σ h =
     (ownValues h (objectAt (σ .objects) h) ++ slotsOf s (σ .objects) h (frames σ))
     [])
 
+-- a number is among some (Who holds what)
 unfoldable pub contains : List ℕ → ℕ → Bool
 contains [] b = false
 contains (x ∷ xs) b = eqb x b || contains xs b
 
--- h holds b: b is a resource object that h can reach
+-- h holds b: b is a resource object that h can reach (Who holds what)
 unfoldable pub holds : Sheet → State → ℕ → ℕ → Bool
 holds s σ h b = isResource s (σ .objects) b && contains (reached s σ h) b
 
--- a number in front of a list, if a test says so
+-- a number in front of a list, if a test says so (Who holds what)
 abbrev pub addIf : Bool → ℕ → List ℕ → List ℕ
 addIf true x xs = x ∷ xs
 addIf false x xs = xs
 
--- the numbers that pass a test, of k numbers from i on
+-- the numbers that pass a test, of k numbers from i on (Who holds what)
 unfoldable pub passing : (ℕ → Bool) → ℕ → ℕ → List ℕ
 passing test i zero = []
 passing test i (suc k) = addIf (test i) i (passing test (suc i) k)
 
--- a holder's authority, ascending
+-- a holder's authority, ascending (Who holds what)
 unfoldable pub authority : Sheet → State → ℕ → List ℕ
 authority s σ h = passing (holds s σ h) 0 (length (σ .objects))

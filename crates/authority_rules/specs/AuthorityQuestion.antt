@@ -14,23 +14,25 @@ use Rattle.machine_rules.specs.State.{State}
 use Rattle.machine_rules.specs.Steps.{run}
 use Rattle.authority_rules.specs.Authority.{isHolder, authority}
 
--- the numbers that an answer writes, or a refusal with its line
+-- the numbers that an answer writes, or a refusal with its line (Turned away, 11)
 pub data Held : Type 0 where
   held : List ℕ → Held
   notHeld : Reason → ℕ → Held
 
--- after the run: no such object, a pure one, or a number over 256 is refused
+-- after the run: no such object, a pure one, or a number over 256 is refused (Turned away, 11)
 abbrev pub heldIn : Sheet → State → ℕ → Held
 heldIn s σ h = cond (isHolder s σ h) (held (authority s σ h)) (notHeld NoHolder 0)
 
+-- only an accepted sheet is run (Turned away, 11)
 abbrev pub heldOf : Sheet → ℕ → ℕ → Verdict → Held
 heldOf s budget h Accepted = heldIn s ((run s budget) .last) h
 heldOf s budget h (Refused r n) = notHeld r n
 
+-- only a sheet that was read is judged (Turned away, 11)
 abbrev pub heldOn : Meaning → ℕ → ℕ → Held
 heldOn (readable s) budget h = heldOf s budget h (typing s)
 heldOn (unreadable r n) budget h = notHeld r n
 
--- the authority of holder h in the state that the run of a text within a budget leaves
+-- the authority of holder h in the state that the run of a text within a budget leaves (Turned away, 11)
 unfoldable pub authorityHeld : List ℕ → ℕ → ℕ → Held
 authorityHeld text budget h = heldOn (meaning text) budget h

@@ -10,38 +10,44 @@ use Rattle.machine_rules.specs.declared.RunReply.{RunReply}
 use Rattle.machine_rules.specs.Steps.{runReply, outcomeNumber}
 use Rattle.authority_rules.specs.AuthorityQuestion.{Held, held, notHeld, authorityHeld}
 
--- a question about a text
+-- a question about a text (One sheet in full)
 pub data Question : Type 0 where
   judged : Question
   runWithin : ℕ → Question
   heldBy : (budget holder : ℕ) → Question
 
 -- what is printed of an answer: the refusal's number and line, or 0, 0 and the run's outcome and steps, or the authority
+-- (One sheet in full)
 abbrev pub runNumbers : RunReply → List ℕ
 runNumbers (RunReply.Ran a) = 0 ∷ 0 ∷ outcomeNumber (a .outcome) ∷ a .steps ∷ []
 runNumbers (RunReply.Refused r n) = numberOf r ∷ n ∷ []
 
+-- and of an authority answer (One sheet in full)
 abbrev pub heldNumbers : Held → List ℕ
 heldNumbers (held os) = 0 ∷ 0 ∷ os
 heldNumbers (notHeld r n) = numberOf r ∷ n ∷ []
 
+-- the numbers of the answer to a question about a text (One sheet in full)
 abbrev pub numbers : Question → List ℕ → List ℕ
 numbers judged text = verdictNumber (verdict text) ∷ verdictLine (verdict text) ∷ []
 numbers (runWithin budget) text = runNumbers (runReply text budget)
 numbers (heldBy budget holder) text = heldNumbers (authorityHeld text budget holder)
 
--- a case: the lines of a sheet, a question, and the numbers that the paper gives for its answer
+-- a case: the lines of a sheet, a question, and the numbers that the paper gives for its answer (One sheet in full)
 pub record Case : Type 0 where
   pub sheet : List String
   pub question : Question
   pub wanted : List ℕ
 
+-- a case, written short (One sheet in full)
 abbrev pub asked : List String → Question → List ℕ → Case
 asked ls q ns = record { sheet = ls; question = q; wanted = ns }
 
+-- what the definitions answer to a case (One sheet in full)
 abbrev pub answer : Case → List ℕ
 answer c = numbers (c .question) (textOf (c .sheet))
 
+-- the table (One sheet in full)
 abbrev pub markedCases : List Case
 markedCases =
     -- P1 and P2: P at budget 8 is done in 8 steps, at budget 7 spent after 7

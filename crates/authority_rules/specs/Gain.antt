@@ -10,7 +10,7 @@ use Rattle.machine_rules.specs.Step.{Action, creates, calls, returns}
 use Rattle.authority_rules.specs.Authority.{isResource, holderOf, topHolder, contains, holds}
 
 -- the three ways in which a step from state σ may give resource b to holder h; a step that only works has none.
--- Top frame and authorities are those of σ, before the step
+-- Top frame and authorities are those of σ, before the step (Who holds what)
 pub data Gain (s : Sheet) (σ : State) (h b : ℕ) : Action → Type 0 where
   -- a creation made c: the top frame's holder gets c
   maker : {c : ℕ} {kept : List ℕ} → h ≡ topHolder s σ → b ≡ c → Gain s σ h b (creates c kept)

@@ -19,24 +19,25 @@ use Rattle.authority_rules.specs.Gain.{Gain}
 
 -- WHAT COMES NEXT
 
--- the state is finished, with a value
+-- the state is finished, with a value (The machine; Who holds what)
 abbrev pub Finished : Sheet → State → Type 0
 Finished s σ = (v : ℕ) × (nextStep s σ ≡ finished v)
 
--- there is a next step, and it can be taken
+-- there is a next step, and it can be taken (The machine; Who holds what)
 abbrev pub CanStep : Sheet → State → Type 0
 CanStep s σ = (a : Action) × (σ′ : State) × (nextStep s σ ≡ step a σ′)
 
--- the next step is stopped, by a full store or by a full stack
+-- the next step is stopped, by a full store or by a full stack (The machine; Who holds what)
 abbrev pub Stopped : Sheet → State → Type 0
 Stopped s σ = (nextStep s σ ≡ storeFull) ⊎ (nextStep s σ ≡ stackFull)
 
--- one of three holds, and no two do
+-- one of three holds, and no two do (The machine; Who holds what)
 pub data OneOf (A B C : Type 0) : Type 0 where
   first : A → OneOf A B C
   second : B → OneOf A B C
   third : C → OneOf A B C
 
+-- exactly one of three holds (The machine)
 pub record ExactlyOneOf (A B C : Type 0) : Type 0 where
   pub one : OneOf A B C
   pub not-first-second : A → B → ⊥
@@ -45,7 +46,7 @@ pub record ExactlyOneOf (A B C : Type 0) : Type 0 where
 
 -- THE GUARANTEE
 
--- what is guaranteed of a state
+-- what is guaranteed of a state (The machine; Who holds what)
 pub record Guarantee (s : Sheet) (σ : State) : Type 0 where
   -- it is finished, or has one next step that can be taken, or is stopped, and never two of these
   pub next : ExactlyOneOf (Finished s σ) (CanStep s σ) (Stopped s σ)
@@ -56,7 +57,7 @@ pub record Guarantee (s : Sheet) (σ : State) : Type 0 where
   -- a step gives a holder a resource that it did not hold in three ways alone
   pub gains : (a : Action) (σ′ : State) → nextStep s σ ≡ step a σ′ → (h b : ℕ) → T (holds s σ′ h b) → (T (holds s σ h b) → ⊥) → Gain s σ h b a
 
--- every accepted text, every n, and the state after n steps where there is one
+-- every accepted text, every n, and the state after n steps where there is one (The machine; Who holds what)
 abbrev pub Guaranteed : Type 0
 Guaranteed = (text : List ℕ) (s : Sheet) → meaning text ≡ readable s → verdict text ≡ Accepted
     → (n : ℕ) (σ : State) → after s n ≡ some σ → Guarantee s σ

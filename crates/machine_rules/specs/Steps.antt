@@ -18,7 +18,7 @@ use Rattle.machine_rules.specs.Step.{Action, creates, calls, returns, wo
 
 -- THE STATE AFTER N STEPS
 
--- the state that a step leaves, where there is one
+-- the state that a step leaves, where there is one (The machine)
 abbrev pub stateOf : Next → Option State
 stateOf (finished v) = none
 stateOf (step a σ) = some σ
@@ -26,24 +26,24 @@ stateOf storeFull = none
 stateOf stackFull = none
 stateOf lacking = none
 
--- one step from a state that may be there
+-- one step from a state that may be there (The machine)
 abbrev pub stepFrom : Sheet → Option State → Option State
 stepFrom s none = none
 stepFrom s (some σ) = stateOf (nextStep s σ)
 
--- the state after n steps from the start, each taken from the state that the last one left; n has no upper limit
+-- the state after n steps from the start, each taken from the state that the last one left; n has no upper limit (The machine)
 unfoldable pub after : Sheet → ℕ → Option State
 after s zero = some (start s)
 after s (suc n) = stepFrom s (after s n)
 
 -- THE TALLY
 
--- the counts of a state after n steps
+-- the counts of a state after n steps (The machine)
 abbrev pub tallyOf : ℕ → State → Tally
 tallyOf n σ = record { steps = n; objects = length (σ .objects); frames = frameCount σ }
 
 -- one step more: a creation adds an object, a call a frame, and a return takes one away, so that the number of objects is the
--- creations taken, and the number of frames one plus calls less returns (StepsLaws.tally-next)
+-- creations taken, and the number of frames one plus calls less returns (StepsLaws.tally-next) (The machine)
 abbrev pub counted : Action → Tally → Tally
 counted (creates c kept) t = record { steps = suc (t .steps); objects = suc (t .objects); frames = t .frames }
 counted (calls receiver argument) t = record { steps = suc (t .steps); objects = t .objects; frames = suc (t .frames) }
@@ -52,16 +52,17 @@ counted works t = record { steps = suc (t .steps); objects = t .objects; frames 
 
 -- THE RUN
 
--- how a run ended, the steps that it took, and the state that it left
+-- how a run ended, the steps that it took, and the state that it left (The machine)
 pub record Ran : Type 0 where
   pub outcome : Outcome
   pub steps : ℕ
   pub last : State
 
+-- a run that ended so (The machine)
 abbrev pub ended : Outcome → ℕ → State → Ran
 ended o n σ = record { outcome = o; steps = n; last = σ }
 
--- the budget is used up: done if finished, and else spent, whatever would come next
+-- the budget is used up: done if finished, and else spent, whatever would come next (The machine)
 abbrev pub budgetUsed : Next → Outcome
 budgetUsed (finished v) = Done
 budgetUsed (step a σ) = Spent
@@ -70,7 +71,7 @@ budgetUsed stackFull = Spent
 budgetUsed lacking = Spent
 
 -- budget is left: done if finished; else stopped by a full store or a full stack, a stopped step not counted; else one step
--- and on from there (a state without a step goes no further; typing excludes it, so nothing rests on its outcome)
+-- and on from there (a state without a step goes no further; typing excludes it, so nothing rests on its outcome) (The machine)
 abbrev pub goOn : Next → ℕ → State → (State → Ran) → Ran
 goOn (finished v) n σ more = ended Done n σ
 goOn storeFull n σ more = ended StoreFull n σ
@@ -79,35 +80,36 @@ goOn (step a σ′) n σ more = more σ′
 goOn lacking n σ more = ended Spent n σ
 
 -- on from a state, with so many steps left of the budget and so many taken; finished is asked first, then the budget
+-- (The machine)
 unfoldable pub runFrom : Sheet → ℕ → ℕ → State → Ran
 runFrom s zero n σ = ended (budgetUsed (nextStep s σ)) n σ
 runFrom s (suc left) n σ = goOn (nextStep s σ) n σ (λ σ′. runFrom s left (suc n) σ′)
 
--- the run of a sheet within a budget
+-- the run of a sheet within a budget (The machine)
 unfoldable pub run : Sheet → ℕ → Ran
 run s budget = runFrom s budget 0 (start s)
 
 -- THE ANSWER
 
--- the numbers of the outcomes
+-- the numbers of the outcomes (The machine)
 abbrev pub outcomeNumber : Outcome → ℕ
 outcomeNumber Done = 0
 outcomeNumber Spent = 1
 outcomeNumber StoreFull = 2
 outcomeNumber StackFull = 3
 
--- the value of an unfinished run
+-- the value of an unfinished run (The machine)
 abbrev pub noValue : ℕ
 noValue = 65535
 
--- a finished run's value is main's last slot
+-- a finished run's value is main's last slot (The machine)
 abbrev pub valueOf : Outcome → State → ℕ
 valueOf Done σ = lastOf (σ .top .slots)
 valueOf Spent σ = noValue
 valueOf StoreFull σ = noValue
 valueOf StackFull σ = noValue
 
--- what the run answers
+-- what the run answers (The machine)
 abbrev pub answerOf : Ran → RunAnswer
 answerOf r =
     record {
@@ -117,15 +119,16 @@ answerOf r =
       objects = length (r .last .objects);
     }
 
--- only an accepted sheet is run
+-- only an accepted sheet is run (The machine)
 abbrev pub runOf : Sheet → ℕ → Verdict → RunReply
 runOf s budget Accepted = RunReply.Ran (answerOf (run s budget))
 runOf s budget (Refused r n) = RunReply.Refused r n
 
+-- only a sheet that was read is judged (The machine)
 abbrev pub runOn : Meaning → ℕ → RunReply
 runOn (readable s) budget = runOf s budget (typing s)
 runOn (unreadable r n) budget = RunReply.Refused r n
 
--- what the run question answers for a text and a budget, its buffer left aside
+-- what the run question answers for a text and a budget, its buffer left aside (The machine)
 unfoldable pub runReply : List ℕ → ℕ → RunReply
 runReply text budget = runOn (meaning text) budget

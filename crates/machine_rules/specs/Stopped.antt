@@ -7,18 +7,18 @@ use Rattle.sheet_rules.specs.Limits.{storeLimit, stackLimit}
 use Rattle.sheet_rules.specs.Sheet.{Instr, new, call}
 use Rattle.machine_rules.specs.State.{State, frameCount}
 
--- the next instruction is a `new`
+-- the next instruction is a `new` (The machine)
 pub data BeginsWithNew : List Instr → Type 0 where
   a-new : {f : ℕ} {ss : List ℕ} {is : List Instr} → BeginsWithNew (new f ss ∷ is)
 
--- the next instruction is a `call`
+-- the next instruction is a `call` (The machine)
 pub data BeginsWithCall : List Instr → Type 0 where
   a-call : {o n a : ℕ} {is : List Instr} → BeginsWithCall (call o n a ∷ is)
 
--- a `new` with 256 objects
+-- a `new` with 256 objects (The machine)
 abbrev pub NoPlace : State → Type 0
 NoPlace σ = BeginsWithNew (σ .top .code) × (length (σ .objects) ≡ storeLimit)
 
--- a `call` with 64 frames
+-- a `call` with 64 frames (The machine)
 abbrev pub NoFrame : State → Type 0
 NoFrame σ = BeginsWithCall (σ .top .code) × (frameCount σ ≡ stackLimit)

@@ -8,7 +8,7 @@ use Rattle.sheet_rules.specs.declared.Verdict.the-variants.{Accepted, Re
 use Rattle.sheet_rules.specs.declared.FitAnswer.{FitAnswer}
 use Rattle.sheet_rules.specs.declared.FitAnswer.the-variants.{Yes, WrongKind, Unmet}
 
--- the number of a refusal, with 01's word for it
+-- the number of a refusal, with 01's word for it (Turned away)
 abbrev pub numberOf : Reason → ℕ
 -- short bowl
 numberOf BufferTooShort = 1
@@ -33,16 +33,17 @@ numberOf Misfit = 10
 -- no holder
 numberOf NoHolder = 11
 
--- the number and the line of a verdict: 0 and 0 when accepted
+-- the number and the line of a verdict: 0 and 0 when accepted (Turned away)
 abbrev pub verdictNumber : Verdict → ℕ
 verdictNumber Accepted = 0
 verdictNumber (Refused r n) = numberOf r
 
+-- the line of a verdict: 0 when accepted (Turned away)
 abbrev pub verdictLine : Verdict → ℕ
 verdictLine Accepted = 0
 verdictLine (Refused r n) = n
 
--- a row fits another when the answer is yes
+-- a row fits another when the answer is yes (Turned away)
 abbrev pub isYes : FitAnswer → Bool
 isYes Yes = true
 isYes WrongKind = false

@@ -14,12 +14,12 @@ use Rattle.sheet_rules.specs.Keys.{codeOf, hasKey, hasInstructionKey}
 use Rattle.sheet_rules.specs.Sheet.{Row, Instr, new, call, get, put, copy, Part, init, body, Form, noMember, rowAt, sizeOfParts, sizeOfForms}
 use Rattle.sheet_rules.specs.Reader.{Judged, good, demand, Reader, _>>=_, give, one, many, nth, within, existingLine}
 
--- what a `form` line says: its type row and how many values are kept
+-- what a `form` line says: its type row and how many values are kept (The sheet, forms and main)
 pub record FormHeading : Type 0 where
   pub row : ℕ
   pub count : ℕ
 
--- `form=T,C`
+-- `form=T,C` (The sheet, forms and main)
 unfoldable pub formLine : ℕ → Key → List ℕ → Judged FormHeading
 formLine rows k ns =
     demand (hasKey Key.Form k ns) Malformed
@@ -27,14 +27,14 @@ formLine rows k ns =
     (demand (ltb (nth ns 0) rows) NotDefined
     (good (record { row = nth ns 0; count = nth ns 1 }))))
 
--- `body=I` or `main=I`, after so many instructions of the sheet
+-- `body=I` or `main=I`, after so many instructions of the sheet (The sheet, forms and main)
 unfoldable pub bodyLine : Key → ℕ → Key → List ℕ → Judged ℕ
 bodyLine wanted used k ns =
     demand (hasKey wanted k ns) Malformed
     (demand (within 1 bodyLimit (nth ns 0) && leb (used + nth ns 0) instructionLimit) OutOfLimit
     (good (nth ns 0)))
 
--- the instruction that a key and its numbers make
+-- the instruction that a key and its numbers make (The sheet, forms and main)
 unfoldable pub instrOf : Key → List ℕ → Instr
 instrOf k ns =
     cond (eqb (codeOf k) (codeOf Key.New)) (new (nth ns 0) (drop 1 ns))
@@ -43,7 +43,7 @@ instrOf k ns =
     (cond (eqb (codeOf k) (codeOf Key.Put)) (put (nth ns 0) (nth ns 1))
     (copy (nth ns 0)))))
 
--- the name that an instruction has is within its limit
+-- the name that an instruction has is within its limit (The sheet, forms and main)
 abbrev pub nameAllowed : Instr → Bool
 nameAllowed (new f ss) = true
 nameAllowed (call o n a) = leb n nameLimit
@@ -51,11 +51,13 @@ nameAllowed (get n) = leb n nameLimit
 nameAllowed (put n v) = leb n nameLimit
 nameAllowed (copy v) = true
 
+-- every number is below a bound (The sheet, forms and main)
 unfoldable pub allBelow : ℕ → List ℕ → Bool
 allBelow bound [] = true
 allBelow bound (x ∷ xs) = ltb x bound && allBelow bound xs
 
 -- the form that an instruction names is one of the sheet's, and its slots were filled by earlier lines
+-- (The sheet, forms and main)
 abbrev pub namesExist : ℕ → ℕ → Instr → Bool
 namesExist forms filled (new f ss) = ltb f forms && allBelow filled ss
 namesExist forms filled (call o n a) = ltb o filled && ltb a filled
@@ -63,7 +65,7 @@ namesExist forms filled (get n) = true
 namesExist forms filled (put n v) = ltb v filled
 namesExist forms filled (copy v) = ltb v filled
 
--- an instruction line, in a sheet of so many forms, with so many slots filled
+-- an instruction line, in a sheet of so many forms, with so many slots filled (The sheet, forms and main)
 unfoldable pub instrLine : ℕ → ℕ → Key → List ℕ → Judged Instr
 instrLine forms filled k ns =
     demand (hasInstructionKey k ns) Malformed
@@ -71,11 +73,12 @@ instrLine forms filled k ns =
     (demand (namesExist forms filled (instrOf k ns)) NotDefined
     (good (instrOf k ns))))
 
--- i instructions, the first of them with so many slots filled; each fills one more
+-- i instructions, the first of them with so many slots filled; each fills one more (The sheet, forms and main)
 unfoldable pub readInstrs : ℕ → ℕ → ℕ → Reader (List Instr)
 readInstrs forms filled i = many i (λ before. one (instrLine forms (filled + length before))) []
 
 -- a form's part for a member: `init` for a field; for a method `body`, where slots 0 and 1 and the kept ones are filled
+-- (The sheet, forms and main)
 unfoldable pub readPart : ℕ → ℕ → ℕ → Member → Reader Part
 readPart forms keeps used (Field n r) = do
   k ← one (existingLine Key.Init keeps)
@@ -85,7 +88,7 @@ readPart forms keeps used (Method n a r) = do
   is ← readInstrs forms (suc (suc keeps)) i
   give (body is)
 
--- a form, after the earlier ones, in a sheet of so many
+-- a form, after the earlier ones, in a sheet of so many (The sheet, forms and main)
 unfoldable pub readForm : List Row → ℕ → List Form → Reader Form
 readForm rows forms earlier = do
   h ← one (formLine (length rows))

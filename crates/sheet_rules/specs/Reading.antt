@@ -15,12 +15,12 @@ use Rattle.sheet_rules.specs.Reader.{Read, got, refused, Reader, _>>=_, 
 use Rattle.sheet_rules.specs.RowLines.{readRow}
 use Rattle.sheet_rules.specs.FormLines.{bodyLine, readInstrs, readForm}
 
--- nothing stands after main
+-- nothing stands after main (The sheet)
 unfoldable pub readEnd : Reader (Unit {0})
 readEnd [] n = got tt [] n
 readEnd (l ∷ ls) n = refused Malformed n
 
--- rows, forms and main, in this order
+-- rows, forms and main, in this order (The sheet)
 unfoldable pub readSheet : Reader Sheet
 readSheet = do
   t ← one (countLine Key.Types 1 rowLimit)
@@ -32,15 +32,16 @@ readSheet = do
   _ ← readEnd
   give (record { rows = rows; forms = forms; main = main })
 
--- what a text means: a sheet, or a refusal from 2 to 7 with its line
+-- what a text means: a sheet, or a refusal from 2 to 7 with its line (Turned away, 2 to 7)
 pub data Meaning : Type 0 where
   readable : Sheet → Meaning
   unreadable : Reason → ℕ → Meaning
 
+-- what reading gave, without the lines left (The sheet)
 abbrev pub conclude : Read Sheet → Meaning
 conclude (got s ls n) = readable s
 conclude (refused r n) = unreadable r n
 
--- a text over its limit is refused unread; any other is read from line 1
+-- a text over its limit is refused unread; any other is read from line 1 (Turned away, 2)
 unfoldable pub meaning : List ℕ → Meaning
 meaning text = cond (leb (length text) textLimit) (conclude (readSheet (linesOf text) 1)) (unreadable TextTooLong 0)

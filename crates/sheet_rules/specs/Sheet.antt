@@ -7,12 +7,12 @@ use Rattle.sheet_rules.specs.declared.Kind.the-variants.{Pure}
 use Rattle.sheet_rules.specs.declared.Member.{Member}
 use Rattle.sheet_rules.specs.declared.Member.the-variants.{Field}
 
--- a type row: pure or resource, and its members by ascending name; rows are numbered from 0
+-- a type row: pure or resource, and its members by ascending name; rows are numbered from 0 (The sheet)
 pub record Row : Type 0 where
   pub kind : Kind
   pub members : List Member
 
--- one instruction; each fills the next slot of its frame
+-- one instruction; each fills the next slot of its frame (The sheet)
 pub data Instr : Type 0 where
   -- `new=F,s..`: an object of form F, with a slot for each kept value
   new : ℕ → List ℕ → Instr
@@ -25,18 +25,18 @@ pub data Instr : Type 0 where
   -- `copy=s`: slot s
   copy : ℕ → Instr
 
--- what a form has for a member of its row: the kept value that a field starts as, or a method's body
+-- what a form has for a member of its row: the kept value that a field starts as, or a method's body (The sheet)
 pub data Part : Type 0 where
   init : ℕ → Part
   body : List Instr → Part
 
--- a form: its type row, the rows of its kept values, and a part for each member of its row, in order
+-- a form: its type row, the rows of its kept values, and a part for each member of its row, in order (The sheet)
 pub record Form : Type 0 where
   pub row : ℕ
   pub keeps : List ℕ
   pub parts : List Part
 
--- a sheet: its rows, its forms and main's instructions
+-- a sheet: its rows, its forms and main's instructions (The sheet)
 pub record Sheet : Type 0 where
   pub rows : List Row
   pub forms : List Form
@@ -46,33 +46,37 @@ pub record Sheet : Type 0 where
 abbrev pub noRow : Row
 noRow = record { kind = Pure; members = [] }
 
+-- the same for a member
 abbrev pub noMember : Member
 noMember = Field 0 0
 
+-- the same for a form
 abbrev pub noForm : Form
 noForm = record { row = 0; keeps = []; parts = [] }
 
--- the row of a number
+-- the row of a number (The sheet)
 abbrev pub rowAt : List Row → ℕ → Row
 rowAt rows a = getD rows a noRow
 
--- the form of a number
+-- the form of a number (The sheet)
 abbrev pub formAt : Sheet → ℕ → Form
 formAt s f = getD (s .forms) f noForm
 
--- the row of the form of a number
+-- the row of the form of a number (The sheet)
 abbrev pub rowOfForm : Sheet → ℕ → Row
 rowOfForm s f = rowAt (s .rows) ((formAt s f) .row)
 
--- how many instructions stand in a part, in a list of parts, in a list of forms
+-- how many instructions stand in a part, in a list of parts, in a list of forms (The sheet)
 abbrev pub sizeOfPart : Part → ℕ
 sizeOfPart (init k) = 0
 sizeOfPart (body is) = length is
 
+-- the instructions of some parts
 unfoldable pub sizeOfParts : List Part → ℕ
 sizeOfParts [] = 0
 sizeOfParts (p ∷ ps) = sizeOfPart p + sizeOfParts ps
 
+-- the instructions of some forms
 unfoldable pub sizeOfForms : List Form → ℕ
 sizeOfForms [] = 0
 sizeOfForms (f ∷ fs) = sizeOfParts (f .parts) + sizeOfForms fs

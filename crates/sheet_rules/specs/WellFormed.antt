@@ -13,27 +13,27 @@ use Rattle.sheet_rules.specs.Sheet.{Row, Instr, new, call, get, put, cop
 use Rattle.sheet_rules.specs.RowLines.{nameOf, mentionsBelow}
 use Rattle.sheet_rules.specs.FormLines.{nameAllowed, namesExist}
 
--- every member of a list mentions rows below i alone
+-- every member of a list mentions rows below i alone (The sheet)
 abbrev pub Mentions : ℕ → List Member → Type 0
 Mentions i xs = (x : Member) → In x xs → T (mentionsBelow i x)
 
--- every row mentions rows of lower numbers than its own
+-- every row mentions rows of lower numbers than its own (The sheet)
 abbrev pub LowerRows : List Row → Type 0
 LowerRows rows = (a : ℕ) → Mentions a ((rowAt rows a) .members)
 
--- the names of some members ascend strictly, from i on
+-- the names of some members ascend strictly, from i on (The sheet)
 pub data NamesAscend : ℕ → List Member → Type 0 where
   end : {i : ℕ} → NamesAscend i []
   above : {i : ℕ} {x : Member} {xs : List Member} → i ≤ nameOf x → NamesAscend (suc (nameOf x)) xs → NamesAscend i (x ∷ xs)
 
--- the row of number i: it mentions lower rows, its names ascend, and names and members are within their limits
+-- the row of number i: it mentions lower rows, its names ascend, and names and members are within their limits (The sheet)
 pub record WellFormedRow (i : ℕ) (a : Row) : Type 0 where
   pub lower : Mentions i (a .members)
   pub names : NamesAscend 0 (a .members)
   pub low : (x : Member) → In x (a .members) → nameOf x ≤ nameLimit
   pub few : length (a .members) ≤ memberLimit
 
--- how many slots a `new` names for kept values
+-- how many slots a `new` names for kept values (The sheet)
 abbrev pub keptSlots : Instr → ℕ
 keptSlots (new f ss) = length ss
 keptSlots (call o n a) = 0
@@ -42,37 +42,38 @@ keptSlots (put n v) = 0
 keptSlots (copy v) = 0
 
 -- an instruction, with so many slots filled: it names a form of the sheet and slots filled before it, and is within its limits
+-- (The sheet)
 pub record WellFormedInstr (forms filled : ℕ) (i : Instr) : Type 0 where
   pub exist : T (namesExist forms filled i)
   pub name : T (nameAllowed i)
   pub few : keptSlots i ≤ keepLimit
 
--- some instructions, the first of them with so many slots filled; each fills one more
+-- some instructions, the first of them with so many slots filled; each fills one more (The sheet)
 pub data Scoped (forms : ℕ) : ℕ → List Instr → Type 0 where
   end : {filled : ℕ} → Scoped forms filled []
   next : {filled : ℕ} {i : Instr} {is : List Instr} → WellFormedInstr forms filled i → Scoped forms (suc filled) is → Scoped forms filled (i ∷ is)
 
--- a body, or main: 1 to 32 instructions, each of which names what is there
+-- a body, or main: 1 to 32 instructions, each of which names what is there (The sheet)
 pub record WellFormedBody (forms filled : ℕ) (is : List Instr) : Type 0 where
   pub scoped : Scoped forms filled is
   pub some : 1 ≤ length is
   pub few : length is ≤ bodyLimit
 
 -- a part is the one of a member: a field starts as a kept value, a method has a body, where slots 0 and 1 and the kept ones are
--- filled
+-- filled (The sheet)
 pub data PartOf (forms keeps : ℕ) : Member → Part → Type 0 where
   field : {n r k : ℕ} → k < keeps → PartOf forms keeps (Field n r) (init k)
   method : {n a r : ℕ} {is : List Instr} → WellFormedBody forms (suc (suc keeps)) is → PartOf forms keeps (Method n a r) (body is)
 
 -- a form, in a sheet of the given rows and so many forms: its row and its kept rows are there, and its parts
--- are those of its row's members one for one
+-- are those of its row's members one for one (The sheet)
 pub record WellFormedForm (rows : List Row) (forms : ℕ) (f : Form) : Type 0 where
   pub row : f .row < length rows
   pub keeps : (k : ℕ) → In k (f .keeps) → k < length rows
   pub few : length (f .keeps) ≤ keepLimit
   pub parts : Pairwise (PartOf forms (length (f .keeps))) ((rowAt rows (f .row)) .members) (f .parts)
 
--- a sheet that was read (a row number that is not there counts as a row without members)
+-- a sheet that was read (a row number that is not there counts as a row without members) (The sheet)
 pub record WellFormed (s : Sheet) : Type 0 where
   pub rows : (a : ℕ) → WellFormedRow a (rowAt (s .rows) a)
   pub someRows : 1 ≤ length (s .rows)

@@ -12,17 +12,18 @@ use Rattle.type_rules.specs.declared.FitReply.{FitReply}
 use Rattle.type_rules.specs.declared.FitReply.the-variants.{Fits, FitsNot, Refused}
 use Rattle.type_rules.specs.Fit.{fits}
 
--- both rows are there: yes or no; a row number that is not there is refused at line 0
+-- both rows are there: yes or no; a row number that is not there is refused at line 0 (Turned away)
 abbrev pub fitIn : Sheet → ℕ → ℕ → FitReply
 fitIn s a b =
     cond (ltb a (length (s .rows)) && ltb b (length (s .rows)))
     (cond (fits (s .rows) a b) Fits FitsNot)
     (Refused NotDefined 0)
 
--- the fit question stops after reading
+-- the fit question stops after reading (Turned away)
 abbrev pub fitOn : Meaning → ℕ → ℕ → FitReply
 fitOn (readable s) a b = fitIn s a b
 fitOn (unreadable r n) a b = Refused r n
 
+-- what the fit question answers (Turned away)
 unfoldable pub fitReply : List ℕ → ℕ → ℕ → FitReply
 fitReply text a b = fitOn (meaning text) a b

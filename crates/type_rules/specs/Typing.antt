@@ -20,32 +20,33 @@ use Rattle.type_rules.specs.Fit.{fits}
 
 -- LOOKING UP
 
--- a method's argument row and result row
+-- a method's argument row and result row (Fit and typing)
 pub record Signature : Type 0 where
   pub argument : ℕ
   pub result : ℕ
 
--- method n among members
+-- method n among members (Fit and typing)
 unfoldable pub methodIn : List Member → ℕ → Option Signature
 methodIn [] n = none
 methodIn (Method m a r ∷ xs) n = cond (eqb m n) (some (record { argument = a; result = r })) (methodIn xs n)
 methodIn (Field m r ∷ xs) n = methodIn xs n
 
--- the row of field n among members
+-- the row of field n among members (Fit and typing)
 unfoldable pub fieldIn : List Member → ℕ → Option ℕ
 fieldIn [] n = none
 fieldIn (Field m r ∷ xs) n = cond (eqb m n) (some r) (fieldIn xs n)
 fieldIn (Method m a r ∷ xs) n = fieldIn xs n
 
--- the members of row number a
+-- the members of row number a (Fit and typing)
 abbrev pub membersAt : Sheet → ℕ → List Member
 membersAt s a = (rowAt (s .rows) a) .members
 
--- the own object's row in a body; main has none
+-- the own object's row in a body; main has none (Fit and typing)
 abbrev pub Own : Type 0
 Own = Option ℕ
 
 -- the row of the own object's field n; fields are reached only by their own object's bodies, so main reaches none
+-- (Fit and typing)
 abbrev pub ownField : Sheet → Own → ℕ → Option ℕ
 ownField s none n = none
 ownField s (some a) n = fieldIn (membersAt s a) n
@@ -53,15 +54,17 @@ ownField s (some a) n = fieldIn (membersAt s a) n
 -- THE ROW OF EACH SLOT
 
 -- the row that a look-up found; row 0 stands in where it found none, which is refused before anything looks at it
+-- (Fit and typing)
 abbrev pub resultOf : Option Signature → ℕ
 resultOf none = 0
 resultOf (some m) = m .result
 
+-- the same for a field's row (Fit and typing)
 abbrev pub rowOr0 : Option ℕ → ℕ
 rowOr0 none = 0
 rowOr0 (some r) = r
 
--- the row of the slot that an instruction fills, after slots of the given rows
+-- the row of the slot that an instruction fills, after slots of the given rows (Fit and typing)
 abbrev pub slotRow : Sheet → Own → List ℕ → Instr → ℕ
 slotRow s own rows (new f ss) = (formAt s f) .row
 slotRow s own rows (call o n a) = resultOf (methodIn (membersAt s (getD rows o 0)) n)
@@ -69,58 +72,58 @@ slotRow s own rows (get n) = rowOr0 (ownField s own n)
 slotRow s own rows (put n v) = rowOr0 (ownField s own n)
 slotRow s own rows (copy v) = getD rows v 0
 
--- the rows of all slots after some instructions
+-- the rows of all slots after some instructions (Fit and typing)
 unfoldable pub slotRows : Sheet → Own → List ℕ → List Instr → List ℕ
 slotRows s own rows [] = rows
 slotRows s own rows (i ∷ is) = slotRows s own (rows ++ (slotRow s own rows i ∷ [])) is
 
--- the rows of a body's first slots: the own object, the argument, the kept values
+-- the rows of a body's first slots: the own object, the argument, the kept values (Fit and typing)
 abbrev pub bodyRows : Form → ℕ → List ℕ
 bodyRows f argument = f .row ∷ argument ∷ f .keeps
 
--- main's first slots: none is filled at the start
+-- main's first slots: none is filled at the start (Fit and typing)
 abbrev pub mainRows : Sheet → List ℕ
 mainRows s = []
 
 -- THE FAULT OF A LINE
 
--- a line's fault, if it has one
+-- a line's fault, if it has one (Turned away)
 abbrev pub Fault : Type 0
 Fault = Option Reason
 
--- a refusal where a test fails
+-- a refusal where a test fails (Turned away)
 abbrev pub unless : Bool → Reason → Fault
 unless true r = none
 unless false r = some r
 
--- the first of two faults of one line
+-- the first of two faults of one line (Turned away)
 abbrev pub firstOf : Fault → Fault → Fault
 firstOf none g = g
 firstOf (some r) g = some r
 
--- values of the given rows, slot by slot, fit the declared rows, and there are as many
+-- values of the given rows, slot by slot, fit the declared rows, and there are as many (Fit and typing)
 unfoldable pub allFit : (ℕ → ℕ → Bool) → List ℕ → List ℕ → List ℕ → Bool
 allFit fit rows [] [] = true
 allFit fit rows [] (b ∷ bs) = false
 allFit fit rows (v ∷ vs) [] = false
 allFit fit rows (v ∷ vs) (b ∷ bs) = fit (getD rows v 0) b && allFit fit rows vs bs
 
--- method n must be there, and a value of row a must fit its argument
+-- method n must be there, and a value of row a must fit its argument (Fit and typing)
 abbrev pub callFault : (ℕ → ℕ → Bool) → Option Signature → ℕ → Fault
 callFault fit none a = some NoSuchMember
 callFault fit (some m) a = unless (fit a (m .argument)) Misfit
 
--- the field must be there
+-- the field must be there (Fit and typing)
 abbrev pub getFault : Option ℕ → Fault
 getFault none = some NoSuchMember
 getFault (some r) = none
 
--- the field must be there, and a value of row a must fit it
+-- the field must be there, and a value of row a must fit it (Fit and typing)
 abbrev pub putFault : (ℕ → ℕ → Bool) → Option ℕ → ℕ → Fault
 putFault fit none a = some NoSuchMember
 putFault fit (some r) a = unless (fit a r) Misfit
 
--- the fault of an instruction, after slots of the given rows
+-- the fault of an instruction, after slots of the given rows (Fit and typing)
 abbrev pub instrFault : (ℕ → ℕ → Bool) → Sheet → Own → List ℕ → Instr → Fault
 instrFault fit s own rows (new f ss) = unless (allFit fit rows ss ((formAt s f) .keeps)) Misfit
 instrFault fit s own rows (call o n a) = callFault fit (methodIn (membersAt s (getD rows o 0)) n) (getD rows a 0)
@@ -129,12 +132,13 @@ instrFault fit s own rows (put n v) = putFault fit (ownField s own n) (getD rows
 instrFault fit s own rows (copy v) = none
 
 -- a body's value, of row a, must fit the declared result, which is judged on its last instruction's line; main declares none
+-- (Fit and typing)
 abbrev pub resultFault : (ℕ → ℕ → Bool) → Option ℕ → ℕ → List Instr → Fault
 resultFault fit none a is = none
 resultFault fit (some r) a [] = unless (fit a r) Misfit
 resultFault fit (some r) a (i ∷ is) = none
 
--- the lines of some instructions
+-- the lines of some instructions (Fit and typing)
 unfoldable pub instrFaults : (ℕ → ℕ → Bool) → Sheet → Own → Option ℕ → List ℕ → List Instr → List Fault
 instrFaults fit s own result rows [] = []
 instrFaults fit s own result rows (i ∷ is) =
@@ -142,78 +146,84 @@ instrFaults fit s own result rows (i ∷ is) =
     ∷ instrFaults fit s own result (rows ++ (slotRow s own rows i ∷ [])) is
 
 -- the lines of a form's part for a member: `init`, or `body` and its instructions; reading gives each member its own kind
+-- (Fit and typing)
 abbrev pub partFaults : (ℕ → ℕ → Bool) → Sheet → Form → Member → Part → List Fault
 partFaults fit s f (Field n r) (init k) = unless (fit (getD (f .keeps) k 0) r) Misfit ∷ []
 partFaults fit s f (Method n a r) (body is) = none ∷ instrFaults fit s (some (f .row)) (some r) (bodyRows f a) is
 partFaults fit s f (Field n r) (body is) = []
 partFaults fit s f (Method n a r) (init k) = []
 
+-- the lines of a form's parts (Fit and typing)
 unfoldable pub partsFaults : (ℕ → ℕ → Bool) → Sheet → Form → List Member → List Part → List Fault
 partsFaults fit s f [] ps = []
 partsFaults fit s f (m ∷ ms) [] = []
 partsFaults fit s f (m ∷ ms) (p ∷ ps) = partFaults fit s f m p ++ partsFaults fit s f ms ps
 
+-- a kind is pure (Fit and typing)
 abbrev pub isPure : Kind → Bool
 isPure Pure = true
 isPure Resource = false
 
+-- there is a field among some members (Fit and typing)
 unfoldable pub hasField : List Member → Bool
 hasField [] = false
 hasField (Method n a r ∷ xs) = hasField xs
 hasField (Field n r ∷ xs) = true
 
--- a form of a pure row has no fields
+-- a form of a pure row has no fields (Fit and typing)
 abbrev pub formFault : Row → Fault
 formFault a = unless (not (isPure (a .kind) && hasField (a .members))) ImpureForm
 
--- and all its kept rows are pure
+-- and all its kept rows are pure (Fit and typing)
 abbrev pub keepFault : Sheet → Row → ℕ → Fault
 keepFault s a k = unless (not (isPure (a .kind) && not (isPure ((rowAt (s .rows) k) .kind)))) ImpureForm
 
+-- the `keep` lines of a form (Turned away, 8)
 unfoldable pub keepFaults : Sheet → Row → List ℕ → List Fault
 keepFaults s a [] = []
 keepFaults s a (k ∷ ks) = keepFault s a k ∷ keepFaults s a ks
 
--- the lines of a form
+-- the lines of a form (Fit and typing)
 abbrev pub formFaults : (ℕ → ℕ → Bool) → Sheet → Form → List Fault
 formFaults fit s f =
     formFault (rowAt (s .rows) (f .row))
     ∷ (keepFaults s (rowAt (s .rows) (f .row)) (f .keeps) ++ partsFaults fit s f (membersAt s (f .row)) (f .parts))
 
+-- the lines of some forms (Fit and typing)
 unfoldable pub formsFaults : (ℕ → ℕ → Bool) → Sheet → List Form → List Fault
 formsFaults fit s [] = []
 formsFaults fit s (f ∷ fs) = formFaults fit s f ++ formsFaults fit s fs
 
--- all lines from the first `form` line on: forms, the `main` line, main's instructions
+-- all lines from the first `form` line on: forms, the `main` line, main's instructions (Fit and typing)
 unfoldable pub lineFaults : (ℕ → ℕ → Bool) → Sheet → List Fault
 lineFaults fit s = formsFaults fit s (s .forms) ++ (none ∷ instrFaults fit s none none (mainRows s) (s .main))
 
 -- THE VERDICT
 
--- the first line at fault, of lines numbered from n
+-- the first line at fault, of lines numbered from n (Turned away)
 unfoldable pub firstFault : ℕ → List Fault → Verdict
 firstFault n [] = Accepted
 firstFault n (none ∷ fs) = firstFault (suc n) fs
 firstFault n (some r ∷ fs) = Refused r n
 
--- how many lines some rows take: a `type` line each, and a line for each member
+-- how many lines some rows take: a `type` line each, and a line for each member (Turned away)
 unfoldable pub rowLines : List Row → ℕ
 rowLines [] = 0
 rowLines (a ∷ bs) = suc (length (a .members)) + rowLines bs
 
--- the number of the first line after the `types` line, the rows and the `forms` line
+-- the number of the first line after the `types` line, the rows and the `forms` line (Turned away)
 abbrev pub firstFormLine : Sheet → ℕ
 firstFormLine s = rowLines (s .rows) + 3
 
--- the typing verdict on a sheet that was read
+-- the typing verdict on a sheet that was read (Fit and typing)
 unfoldable pub typing : Sheet → Verdict
 typing s = firstFault (firstFormLine s) (lineFaults (fits (s .rows)) s)
 
--- the verdict on what reading gave: only a sheet that was read whole is typed
+-- the verdict on what reading gave: only a sheet that was read whole is typed (Turned away)
 abbrev pub verdictOn : Meaning → Verdict
 verdictOn (readable s) = typing s
 verdictOn (unreadable r n) = Refused r n
 
--- the verdict on a text
+-- the verdict on a text (Turned away)
 unfoldable pub verdict : List ℕ → Verdict
 verdict text = verdictOn (meaning text)

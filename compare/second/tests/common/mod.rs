@@ -1,4 +1,4 @@
-//! Helpers for the tests: the example sheets and small changes to them.
+//! What the tests share: the example sheets and small changes to them.
 #![allow(dead_code)]
 
 use second::{Outcome, Refusal, RunAnswer};
