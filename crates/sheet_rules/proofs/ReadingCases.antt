@@ -99,3 +99,29 @@ all = refl
 pub too-long : numbers (meaning (replicate 70000 10)) ≡ 2 ∷ 0 ∷ []
 unfolding reading
 too-long = refl
+
+-- THE LIMIT OF 1,024 INSTRUCTIONS, at its edge
+
+-- a heading and so many instructions
+abbrev body : String → ℕ → List String
+body l n = l ∷ replicate n "copy=0"
+
+abbrev twice : List String → List String
+twice ls = ls ++ ls
+
+abbrev seven : List String
+seven = body "body=32" 32 ++ twice (body "body=32" 32 ++ twice (body "body=32" 32))
+
+abbrev form-of-256 : List String
+form-of-256 = "form=1,0" ∷ (body "body=32" 32 ++ seven)
+
+-- four forms of eight bodies, the last body given, and main with one instruction on the last line
+abbrev filled-with : List String → List String
+filled-with last =
+    ("types=2" ∷ "type=0,0" ∷ "type=0,8" ∷ "def=0,0,0" ∷ "def=1,0,0" ∷ "def=2,0,0" ∷ "def=3,0,0" ∷ "def=4,0,0" ∷ "def=5,0,0" ∷ "def=6,0,0" ∷ "def=7,0,0" ∷ "forms=4" ∷ [])
+    ++ (form-of-256 ++ twice form-of-256) ++ ("form=1,0" ∷ (seven ++ last)) ++ ("main=1" ∷ "new=0" ∷ [])
+
+-- 1,024 in all are read; with one more the `main` line is out of its limit
+pub at-most-1024 : map (λ ls. numbers (meaning (textOf ls))) (filled-with (body "body=31" 31) ∷ filled-with (body "body=32" 32) ∷ []) ≡ (0 ∷ 0 ∷ []) ∷ (4 ∷ 1073 ∷ []) ∷ []
+unfolding reading
+at-most-1024 = refl
