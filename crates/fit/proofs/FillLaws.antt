@@ -20,7 +20,8 @@ use Rattle.table.specs.Layout.{rowAddress, fitAddress, tableEnd, slotRowAddress
 use Rattle.table.specs.View.{cell, rowIn, rowsIn}
 use Rattle.table.specs.Only.{Only}
 use Rattle.table.proofs.ViewLaws.{only-refl, only-trans, only-set, only→same, rowIn-same}
-use Rattle.fit.specs.Told.{bit, tells, ruleTells, Ready, pairFilled, pairsFilled, rowsFilled, FitFilled}
+use Rattle.table.specs.Ready.{Ready}
+use Rattle.fit.specs.Told.{bit, tells, ruleTells, pairFilled, pairsFilled, rowsFilled, FitFilled}
 
 -- filling changes the fit table alone
 

@@ -13,7 +13,8 @@ use Rattle.table.specs.Layout.{rowCountAt, rowAddress, tableEnd, slotRowAddress
 use Rattle.table.specs.View.{cell, rowIn, rowsIn, sheetIn}
 use Rattle.table.proofs.ViewLaws.{only→same, sheetIn-same}
 use Rattle.table.proofs.RowLaws.{members-length}
-use Rattle.fit.specs.Told.{tells, Ready, FitFilled}
+use Rattle.table.specs.Ready.{Ready}
+use Rattle.fit.specs.Told.{tells, FitFilled}
 use Rattle.fit.proofs.FillLaws.{filled-tells}
 
 -- what `fill` asks for, of a well-formed sheet in a whole buffer

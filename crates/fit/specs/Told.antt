@@ -4,11 +4,11 @@ use mathlib.Core.Path.{_≡_}
 use mathlib.Core.Bool.{Bool, true, false}
 use mathlib.Core.List.{List}
 use lib.Dec.{eqb}
-use lib.ListN.{length, set}
+use lib.ListN.{set}
 use Rattle.sheet_rules.specs.declared.Member.{Member}
 use Rattle.sheet_rules.specs.Answers.{isYes}
 use Rattle.type_rules.specs.Fit.{matches, rowAnswer, fits}
-use Rattle.table.specs.Layout.{rowAddress, fitAddress, tableEnd, slotRowAddress, workSize}
+use Rattle.table.specs.Layout.{fitAddress, tableEnd, slotRowAddress}
 use Rattle.table.specs.View.{cell, memberIn, rowIn, rowsIn}
 use Rattle.table.specs.Only.{Only}
 
@@ -34,12 +34,6 @@ pub record FirstMatch (w : List ℕ) (i : ℕ) (y : Member) (from to r : ℕ) : 
 -- the rule's word, where the table's is taken for the rows that the members mention
 abbrev pub ruleTells : List ℕ → ℕ → ℕ → Bool
 ruleTells w a b = isYes (rowAnswer (tells w) (rowIn w a) (rowIn w b))
-
--- a whole buffer, where the first n rows have at most 8 members
-pub record Ready (n : ℕ) (w : List ℕ) : Type 0 where
-  pub size : workSize ≤ length w
-  pub rows : n ≤ 64
-  pub few : (i : ℕ) → i < n → cell w (rowAddress i + 1) ≤ 8
 
 -- the cells (m, k) and (k, m) filled
 unfoldable pub pairFilled : List ℕ → ℕ → ℕ → List ℕ

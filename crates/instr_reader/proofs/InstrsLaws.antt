@@ -2,31 +2,22 @@
 use Prim.Native.Nat.{ℕ, suc, _+_, _*_, _≤_, _<_}
 use native.Mathlib.Omega.{arith}
 use native.Mathlib.Decide.{decLe}
-use mathlib.Core.Path.{_≡_, sym, ap, ap₂, _∙_}
+use mathlib.Core.Path.{_≡_, sym, ap, _∙_}
 use mathlib.Core.List.{List}
-use lib.ListN.{length, drop, take}
+use lib.ListN.{length, drop}
 use Rattle.lists.proofs.TabLaws.{tab-ext, length-tab}
 use Rattle.sheet_rules.specs.Lines.{linesOf}
 use Rattle.sheet_rules.specs.Sheet.{Instr}
 use Rattle.sheet_rules.specs.Reader.{Reader, one}
 use Rattle.sheet_rules.specs.FormLines.{instrLine, readInstrs}
 use Rattle.table.specs.Layout.{instrAddress}
-use Rattle.table.specs.View.{cell, numbersIn, instrFrom, instrIn, instrsIn}
+use Rattle.table.specs.View.{cell, instrIn, instrsIn}
 use Rattle.table.specs.Only.{Only}
-use Rattle.table.proofs.ViewLaws.{SameFrom, only-widen}
+use Rattle.table.proofs.ViewLaws.{SameFrom, only-widen, instr-same}
 use Rattle.line_reader.specs.declared.Progress.{Progress}
 use Rattle.read_loop.specs.Items.{ItemsRead}
 use Rattle.read_loop.proofs.LoopLaws.{Going, Turn}
 use Rattle.instr_reader.specs.Reads.{InstrRead, InstrsRead}
-
--- an instruction depends on its eleven numbers alone
-pub instr-same : (w w′ : List ℕ) (p : ℕ) → SameFrom (instrAddress p) 11 w w′ → instrIn w′ p ≡ instrIn w p
-unfolding instrIn
-instr-same w w′ p h =
-    ap₂ (λ (c n : ℕ). instrFrom c (take n (numbersIn w′ p))) (h (instrAddress p) (omega arith) (omega arith)) (h (instrAddress p + 1) (omega arith) (omega arith))
-    ∙ ap (λ (ns : List ℕ). instrFrom (cell w (instrAddress p)) (take (cell w (instrAddress p + 1)) ns))
-    (tab-ext (λ k. cell w′ (instrAddress p + (2 + k))) (λ k. cell w (instrAddress p + (2 + k))) 9
-    (λ k u. h (instrAddress p + (2 + k)) (omega arith) (omega arith)))
 
 -- a buffer that is changed in one instruction alone has the others as they were
 pub instr-other : (w w′ : List ℕ) (p q : ℕ) → Only (instrAddress p) (instrAddress p + 11) w w′ → p < 1024 → q < 1024 → (q ≡ p → ⊥) → instrIn w′ q ≡ instrIn w q

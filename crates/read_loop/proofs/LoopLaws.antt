@@ -18,10 +18,10 @@ use Rattle.read_loop.specs.Items.{ItemRead, ItemsRead}
 
 -- what it means to have moved on
 
-advanced-later : {text : List ℕ} {at at′ n : ℕ} → Advanced text at (Progress.Moved at′ n) → at ≤ at′
+pub advanced-later : {text : List ℕ} {at at′ n : ℕ} → Advanced text at (Progress.Moved at′ n) → at ≤ at′
 advanced-later (Advanced.moved l r) = l
 
-advanced-room : {text : List ℕ} {at at′ n : ℕ} → Advanced text at (Progress.Moved at′ n) → Room text at′ n
+pub advanced-room : {text : List ℕ} {at at′ n : ℕ} → Advanced text at (Progress.Moved at′ n) → Room text at′ n
 advanced-room (Advanced.moved l r) = r
 
 module _ {A : Type 0} where

@@ -26,7 +26,8 @@ use Rattle.table.specs.Only.{Only}
 use Rattle.table.proofs.ViewLaws.{only-refl, only-set, only-trans, only-widen, row-other}
 use Rattle.line_reader.specs.declared.PairLine.{PairLine}
 use Rattle.line_reader.specs.declared.Progress.{Progress}
-use Rattle.line_reader.specs.Told.{Room, pairRead, PairOnward, readTold, Advanced}
+use Rattle.line_reader.specs.Told.{pairRead, PairOnward, readTold, Advanced}
+use Rattle.read_loop.proofs.ThenLaws.{past, advanced-sooner}
 use Rattle.row_reader.specs.Reads.{headingIn, Headed, MembersRead, rowRest, RowKept, RowRead}
 
 -- a row of a kind's number and members
@@ -157,18 +158,6 @@ unfolding rowRest andThen
 rest-refused earlier q n = refl
 
 module _ (text : List ℕ) (at n : ℕ) where
-  -- the place after a heading
-  pub record Past (b at′ : ℕ) : Type 0 where
-    pub later : at < at′
-    pub room : Room text at′ (n + 1)
-    pub few : b ≤ 8
-
-  pub past : (p : PairLine) (a b at′ n′ : ℕ) → p ≡ PairLine.Pair a b at′ n′ → PairOnward text at n p → Past b at′
-  past p a b at′ n′ e o = go a b at′ n′ (subst (PairOnward text at n) e o)
-    where
-      go : (x y z m : ℕ) → PairOnward text at n (PairLine.Pair x y z m) → Past y z
-      go x y z m (PairOnward.moved l r f) = record { later = l; room = r; few = f }
-
   module _ (i : ℕ) (w : List ℕ) (p : PairLine)
       (head : (earlier : List Row) → pairRead text n (rowTold earlier) p ≡ one (rowLine earlier) (linesOf (drop at text)) n) where
     told-by : readRow (rowsIn w i) (linesOf (drop at text)) n ≡ rowRest (rowsIn w i) (pairRead text n (rowTold (rowsIn w i)) p)
@@ -180,14 +169,8 @@ module _ (text : List ℕ) (at n : ℕ) where
         record {
           told = k .told ∙ sym (told-by ∙ ap (λ (x : PairLine). rowRest (rowsIn w i) (pairRead text n (rowTold (rowsIn w i)) x)) e);
           only = k .only;
-          advanced = sooner r (k .advanced);
+          advanced = (let z : at ≤ at′ = omega (arith, (past text at n p a b at′ n′ e o) .later) in advanced-sooner z r (k .advanced));
         }
-      where
-        sooner : (x : Progress) → Advanced text at′ x → Advanced text at x
-        sooner (Progress.Moved at″ l) (Advanced.moved h rm) =
-            let z : at ≤ at″ = omega (arith, (past p a b at′ n′ e o) .later) in
-            Advanced.moved z rm
-        sooner (Progress.Refused q l) Advanced.stopped = Advanced.stopped
 
     pub row-refused : (q : Reason) (l : ℕ) → p ≡ PairLine.Refused q l → RowRead text i at n w w (Progress.Refused q l)
     row-refused q l e =

@@ -201,11 +201,12 @@ keeps-keep rows count k before c b h = record { there = each; counted = rw lengt
         go (inl j) = c .there a j
         go (inr e) = omega arith
 
-record HeadingOk (rows : ℕ) (h : FormHeading) : Type 0 where
-  row : h .row < rows
-  few : h .count ≤ keepLimit
+-- a form's heading: its row is there, and it keeps few values
+pub record HeadingOk (rows : ℕ) (h : FormHeading) : Type 0 where
+  pub row : h .row < rows
+  pub few : h .count ≤ keepLimit
 
-formLine-ok : (rows : ℕ) (k : Key) (ns : List ℕ) → Judges (HeadingOk rows) (formLine rows k ns)
+pub formLine-ok : (rows : ℕ) (k : Key) (ns : List ℕ) → Judges (HeadingOk rows) (formLine rows k ns)
 unfolding formLine
 formLine-ok rows k ns =
     judges-demand (HeadingOk rows) _ _ _ (λ _. judges-demand (HeadingOk rows) _ _ _ (λ few. judges-demand (HeadingOk rows) _ _ _ (λ t.

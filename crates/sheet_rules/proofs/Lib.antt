@@ -4,3 +4,4 @@ pub mod ReaderLaws
 pub mod RowLinesLaws
 pub mod FormLinesLaws
 pub mod ReadingLaws
+pub mod SizeLaws

@@ -1,3 +1,5 @@
 pub mod ViewLaws
 pub mod RowLaws
 pub mod FormLaws
+pub mod PoolLaws
+pub mod StoreLaws

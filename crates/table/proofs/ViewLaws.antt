@@ -3,14 +3,14 @@ use Prim.Native.Nat.{ℕ, suc, _+_, _≤_, _<_}
 use native.Mathlib.Omega.{arith}
 use native.Mathlib.Decide.{decLe}
 use mathlib.Core.Path.{_≡_, refl, ap, ap₂, _∙_}
-use mathlib.Core.Bool.{cond}
+use mathlib.Core.Bool.{Bool, true, false, cond}
 use mathlib.Core.List.{List}
 use lib.Dec.{eqb}
 use lib.ListN.{set, take, length-set}
 use lib.Seq.{getD-set-other}
 use Rattle.lists.proofs.TabLaws.{tab-ext}
 use Rattle.sheet_rules.specs.declared.Member.{Member}
-use Rattle.sheet_rules.specs.Sheet.{Row, Instr, init, body}
+use Rattle.sheet_rules.specs.Sheet.{Row, init, body}
 use Rattle.sheet_rules.specs.RowLines.{kindOf}
 use Rattle.table.specs.Layout.{rowCountAt, formCountAt, mainStartAt, mainCountAt, rowAddress, memberAddress, formAddress, keepAddress, partAddress, instrAddress, tableEnd}
 use Rattle.table.specs.View.{cell, memberFrom, memberIn, membersIn, rowIn, rowsIn, numbersIn, instrFrom, instrIn, instrsIn, partFrom, partIn, keepsIn, partsIn, formIn, formsIn, sheetIn}
@@ -65,6 +65,49 @@ row-same w w′ i h =
     (ap (λ (n : ℕ). membersIn w′ i n) (h (rowAddress i + 1) (omega arith) (omega arith))
     ∙ tab-ext (memberIn w′ i) (memberIn w i) (cell w (rowAddress i + 1)) (λ j k. member-same w w′ i j h))
 
+-- an instruction depends on its eleven numbers alone
+
+pub instr-same : (w w′ : List ℕ) (p : ℕ) → SameFrom (instrAddress p) 11 w w′ → instrIn w′ p ≡ instrIn w p
+unfolding instrIn
+instr-same w w′ p h =
+    ap₂ (λ (c n : ℕ). instrFrom c (take n (numbersIn w′ p))) (h (instrAddress p) (omega arith) (omega arith)) (h (instrAddress p + 1) (omega arith) (omega arith))
+    ∙ ap (λ (ns : List ℕ). instrFrom (cell w (instrAddress p)) (take (cell w (instrAddress p + 1)) ns))
+    (tab-ext (λ k. cell w′ (instrAddress p + (2 + k))) (λ k. cell w (instrAddress p + (2 + k))) 9
+    (λ k u. h (instrAddress p + (2 + k)) (omega arith) (omega arith)))
+
+-- a part depends on its three numbers, and a body on its instructions
+
+pub part-same : (w w′ : List ℕ) (f j : ℕ) → SameFrom (partAddress f j) 3 w w′
+    → ((k : ℕ) → cell w (partAddress f j + 1) ≤ k → k < cell w (partAddress f j + 1) + cell w (partAddress f j + 2) → eqb (cell w (partAddress f j)) 0 ≡ false → instrIn w′ k ≡ instrIn w k)
+    → partIn w′ f j ≡ partIn w f j
+unfolding partIn
+part-same w w′ f j h is =
+    ap₂ (λ (t a : ℕ). partFrom w′ t a (cell w′ (partAddress f j + 2))) (h (partAddress f j) (omega arith) (omega arith)) (h (partAddress f j + 1) (omega arith) (omega arith))
+    ∙ ap (λ (b : ℕ). partFrom w′ (cell w (partAddress f j)) (cell w (partAddress f j + 1)) b) (h (partAddress f j + 2) (omega arith) (omega arith))
+    ∙ go (eqb (cell w (partAddress f j)) 0) (cell w (partAddress f j + 1)) (cell w (partAddress f j + 2)) is
+  where
+    go : (t : Bool) (a b : ℕ) → ((k : ℕ) → a ≤ k → k < a + b → t ≡ false → instrIn w′ k ≡ instrIn w k)
+        → cond t (init a) (body (instrsIn w′ a b)) ≡ cond t (init a) (body (instrsIn w a b))
+    go true a b g = refl
+    go false a b g = ap body (tab-ext (λ k. instrIn w′ (a + k)) (λ k. instrIn w (a + k)) b (λ k u. g (a + k) (omega arith) (omega arith) refl))
+
+-- a form depends on its heading, its kept rows and its parts
+
+pub form-same : (w w′ : List ℕ) (f : ℕ) → SameFrom (formAddress f) 11 w w′
+    → ((j : ℕ) → j < cell w (formAddress f + 2) → partIn w′ f j ≡ partIn w f j) → formIn w′ f ≡ formIn w f
+unfolding formIn
+form-same w w′ f h ps = λ p. record { row = h (formAddress f) (omega arith) (omega arith) p; keeps = keeps p; parts = parts p }
+  where
+    keeps : keepsIn w′ f (cell w′ (formAddress f + 1)) ≡ keepsIn w f (cell w (formAddress f + 1))
+    keeps =
+        ap (λ (n : ℕ). keepsIn w′ f n) (h (formAddress f + 1) (omega arith) (omega arith))
+        ∙ tab-ext (λ j. cell w′ (keepAddress f j)) (λ j. cell w (keepAddress f j)) (cell w (formAddress f + 1)) (λ j k. h (keepAddress f j) (omega arith) (omega arith))
+
+    parts : partsIn w′ f (cell w′ (formAddress f + 2)) ≡ partsIn w f (cell w (formAddress f + 2))
+    parts =
+        ap (λ (n : ℕ). partsIn w′ f n) (h (formAddress f + 2) (omega arith) (omega arith))
+        ∙ tab-ext (partIn w′ f) (partIn w f) (cell w (formAddress f + 2)) ps
+
 -- a buffer that is changed in row i's block alone has its other rows as they were
 
 pub row-other : (w w′ : List ℕ) (i j : ℕ) → Only (rowAddress i) (rowAddress i + 36) w w′ → i < 64 → j < 64 → (j ≡ i → ⊥) → rowIn w′ j ≡ rowIn w j
@@ -94,38 +137,16 @@ module _ (w w′ : List ℕ) (h : SameTable w w′) where
   rowsIn-same n = tab-ext (rowIn w′) (rowIn w) n (λ i k. rowIn-same i)
 
   pub instrIn-same : (p : ℕ) → instrIn w′ p ≡ instrIn w p
-  unfolding instrIn
-  instrIn-same p =
-      ap₂ (λ (c n : ℕ). instrFrom c (take n (numbersIn w′ p))) (h (instrAddress p) (omega arith)) (h (instrAddress p + 1) (omega arith))
-      ∙ ap (λ (ns : List ℕ). instrFrom (cell w (instrAddress p)) (take (cell w (instrAddress p + 1)) ns))
-      (tab-ext (λ k. cell w′ (instrAddress p + (2 + k))) (λ k. cell w (instrAddress p + (2 + k))) 9 (λ k u. h (instrAddress p + (2 + k)) (omega arith)))
+  instrIn-same p = instr-same w w′ p (λ k l u. h k (omega arith))
 
   pub instrsIn-same : (p n : ℕ) → instrsIn w′ p n ≡ instrsIn w p n
   instrsIn-same p n = tab-ext (λ k. instrIn w′ (p + k)) (λ k. instrIn w (p + k)) n (λ k u. instrIn-same (p + k))
 
   pub partIn-same : (f j : ℕ) → partIn w′ f j ≡ partIn w f j
-  unfolding partIn
-  partIn-same f j =
-      ap₂ (λ (t a : ℕ). partFrom w′ t a (cell w′ (partAddress f j + 2))) (h (partAddress f j) (omega arith)) (h (partAddress f j + 1) (omega arith))
-      ∙ ap (λ (b : ℕ). partFrom w′ (cell w (partAddress f j)) (cell w (partAddress f j + 1)) b) (h (partAddress f j + 2) (omega arith))
-      ∙ ap (λ (is : List Instr). cond (eqb (cell w (partAddress f j)) 0) (init (cell w (partAddress f j + 1))) (body is)) (instrsIn-same (cell w (partAddress f j + 1)) (cell w (partAddress f j + 2)))
+  partIn-same f j = part-same w w′ f j (λ k l u. h k (omega arith)) (λ k l u d. instrIn-same k)
 
   pub formIn-same : (f : ℕ) → formIn w′ f ≡ formIn w f
-  unfolding formIn
-  formIn-same f = λ p. record { row = row p; keeps = keeps p; parts = parts p }
-    where
-      row : cell w′ (formAddress f) ≡ cell w (formAddress f)
-      row = h (formAddress f) (omega arith)
-
-      keeps : keepsIn w′ f (cell w′ (formAddress f + 1)) ≡ keepsIn w f (cell w (formAddress f + 1))
-      keeps =
-          ap (λ (n : ℕ). keepsIn w′ f n) (h (formAddress f + 1) (omega arith))
-          ∙ tab-ext (λ j. cell w′ (keepAddress f j)) (λ j. cell w (keepAddress f j)) (cell w (formAddress f + 1)) (λ j k. h (keepAddress f j) (omega arith))
-
-      parts : partsIn w′ f (cell w′ (formAddress f + 2)) ≡ partsIn w f (cell w (formAddress f + 2))
-      parts =
-          ap (λ (n : ℕ). partsIn w′ f n) (h (formAddress f + 2) (omega arith))
-          ∙ tab-ext (partIn w′ f) (partIn w f) (cell w (formAddress f + 2)) (λ j k. partIn-same f j)
+  formIn-same f = form-same w w′ f (λ k l u. h k (omega arith)) (λ j u. partIn-same f j)
 
   pub sheetIn-same : sheetIn w′ ≡ sheetIn w
   unfolding sheetIn

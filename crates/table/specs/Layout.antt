@@ -37,6 +37,10 @@ partAddress f j = formAddress f + (11 + 3 * min j 7)
 abbrev pub instrAddress : ℕ → ℕ
 instrAddress p = 4624 + 11 * min p 1023
 
+-- where the instructions from p on begin, which for p 1,024 is where they end
+abbrev pub poolAddress : ℕ → ℕ
+poolAddress p = 4624 + 11 * min p 1024
+
 -- the sheet's table ends here; all that comes after is the state of a question
 abbrev pub tableEnd : ℕ
 tableEnd = 15888

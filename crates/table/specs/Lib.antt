@@ -1,3 +1,6 @@
 pub mod Layout
 pub mod View
 pub mod Only
+pub mod Pool
+pub mod Stores
+pub mod Ready

@@ -6,6 +6,7 @@ ghost use Rattle.table.specs.View.{cell as cellOf};
 
 pub mod forms;
 pub mod rows;
+pub mod stores;
 
 // The number at a place; 0 past the end.
 pub fn cell(work: &[u16], at: usize) -> u16

@@ -3,7 +3,8 @@ use native.Mathlib.Omega.{arith}
 use mathlib.Core.Path.{_≡_, refl, sym, ap, _∙_, subst}
 use mathlib.Core.List.{List}
 use lib.ListN.{length}
-use Rattle.fit.specs.Told.{Ready, pairsFilled, rowsFilled, FitFilled}
+use Rattle.table.specs.Ready.{Ready}
+use Rattle.fit.specs.Told.{pairsFilled, rowsFilled, FitFilled}
 use Rattle.fit.proofs.FillLaws.{rows-only, ready-kept, rows-next, all-filled}
 use Rattle.fit.proofs.fill.Statement.{statement}
 use Rattle.fit.proofs.fill.Tie as tie

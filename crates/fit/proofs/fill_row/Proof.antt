@@ -3,7 +3,8 @@ use native.Mathlib.Omega.{arith}
 use mathlib.Core.Path.{_≡_, refl, sym, ap, _∙_, subst}
 use mathlib.Core.List.{List}
 use lib.ListN.{length}
-use Rattle.fit.specs.Told.{Ready, pairFilled, pairsFilled}
+use Rattle.table.specs.Ready.{Ready}
+use Rattle.fit.specs.Told.{pairFilled, pairsFilled}
 use Rattle.fit.proofs.FillLaws.{pairs-only, ready-kept, pairs-next}
 use Rattle.fit.proofs.fill_row.Statement.{statement}
 use Rattle.fit.proofs.fill_row.Tie as tie

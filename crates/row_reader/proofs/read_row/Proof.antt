@@ -1,4 +1,5 @@
-use Rattle.row_reader.proofs.RowLaws.{past, row-read, row-refused}
+use Rattle.read_loop.proofs.ThenLaws.{past}
+use Rattle.row_reader.proofs.RowLaws.{row-read, row-refused}
 use borrow.Author.Needs.{needs}
 use Rattle.row_reader.proofs.read_row.Statement.{statement}
 use Rattle.row_reader.proofs.read_row.Tie as tie

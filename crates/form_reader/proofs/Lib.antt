@@ -1,0 +1,4 @@
+pub mod PartsLaws
+pub mod FormLaws
+pub mod HeadLaws
+pub mod FormsLaws
