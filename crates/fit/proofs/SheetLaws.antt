@@ -1,18 +1,16 @@
 -- The fit table of a sheet that was read: what filling asks for holds, and what it gives is about the sheet. Assumes nothing.
-use Prim.Native.Nat.{ℕ, _+_, _≤_, _<_}
+use Prim.Native.Nat.{ℕ, _≤_, _<_}
 use native.Mathlib.Omega.{arith}
-use mathlib.Core.Path.{_≡_, ap, _∙_, subst}
+use mathlib.Core.Path.{_≡_}
 use mathlib.Core.List.{List}
 use lib.ListN.{length}
-use Rattle.lists.proofs.TabLaws.{length-tab, getD-tab}
-use Rattle.sheet_rules.specs.Limits.{memberLimit}
-use Rattle.sheet_rules.specs.Sheet.{Row, noRow}
+use Rattle.lists.proofs.TabLaws.{length-tab}
 use Rattle.sheet_rules.specs.WellFormed.{LowerRows, WellFormed}
 use Rattle.type_rules.specs.Fit.{fits}
-use Rattle.table.specs.Layout.{rowCountAt, rowAddress, tableEnd, slotRowAddress, workSize}
+use Rattle.table.specs.Layout.{rowCountAt, tableEnd, slotRowAddress, workSize}
 use Rattle.table.specs.View.{cell, rowIn, rowsIn, sheetIn}
 use Rattle.table.proofs.ViewLaws.{only→same, sheetIn-same}
-use Rattle.table.proofs.RowLaws.{members-length}
+use Rattle.table.proofs.RowLaws.{rows-ready}
 use Rattle.table.specs.Ready.{Ready}
 use Rattle.fit.specs.Told.{tells, FitFilled}
 use Rattle.fit.proofs.FillLaws.{filled-tells}
@@ -22,17 +20,9 @@ use Rattle.fit.proofs.FillLaws.{filled-tells}
 pub sheet-ready : (w : List ℕ) → workSize ≤ length w → WellFormed (sheetIn w) → Ready (cell w rowCountAt) w
 unfolding sheetIn
 sheet-ready w h f =
-    record {
-      size = h;
-      rows = (let e : length (rowsIn w (cell w rowCountAt)) ≡ cell w rowCountAt = length-tab (rowIn w) (cell w rowCountAt) in let k = f .fewRows in omega arith);
-      few = few;
-    }
-  where
-    few : (i : ℕ) → i < cell w rowCountAt → cell w (rowAddress i + 1) ≤ 8
-    few i k =
-        subst (λ (n : ℕ). n ≤ memberLimit)
-        (ap (λ (a : Row). length (a .members)) (getD-tab (rowIn w) (cell w rowCountAt) i noRow k) ∙ members-length w i)
-        ((f .rows i) .few)
+    let e : length (rowsIn w (cell w rowCountAt)) ≡ cell w rowCountAt = length-tab (rowIn w) (cell w rowCountAt) in
+    let k = f .fewRows in
+    rows-ready (cell w rowCountAt) w h (omega arith) (f .rows)
 
 pub sheet-lower : (w : List ℕ) → WellFormed (sheetIn w) → LowerRows (rowsIn w (cell w rowCountAt))
 unfolding sheetIn

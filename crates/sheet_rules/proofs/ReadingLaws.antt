@@ -28,7 +28,8 @@ meaning-unique text s t p q = cc
 
 -- reading gives well-formed sheets
 
-countLine-within : (wanted : Key) (low high : ℕ) (k : Key) (ns : List ℕ) → Judges (λ c. (low ≤ c) × (c ≤ high)) (countLine wanted low high k ns)
+-- a count is within its limits
+pub countLine-within : (wanted : Key) (low high : ℕ) (k : Key) (ns : List ℕ) → Judges (λ c. (low ≤ c) × (c ≤ high)) (countLine wanted low high k ns)
 unfolding countLine
 countLine-within wanted low high k ns =
     judges-demand P _ _ _ (λ _. judges-demand P _ _ _ (λ t. its-good (

@@ -1,7 +1,7 @@
 -- What the numbers of a row's block tell, at the places where the code reads them: a law for each exit. Assumes nothing.
-use Prim.Native.Nat.{ℕ, zero, suc, _+_, _*_, _<_}
+use Prim.Native.Nat.{ℕ, zero, suc, _+_, _*_, _≤_, _<_}
 use native.Mathlib.Omega.{arith}
-use mathlib.Core.Path.{_≡_, refl, sym, ap, _∙_}
+use mathlib.Core.Path.{_≡_, refl, sym, ap, _∙_, subst}
 use mathlib.Core.Bool.{Bool, cond}
 use mathlib.Core.List.{List}
 use lib.ListN.{length, getD}
@@ -9,10 +9,13 @@ use borrow.Author.Tests.{eq-eqb, ne-eqb}
 use Rattle.lists.proofs.TabLaws.{length-tab, getD-tab}
 use Rattle.sheet_rules.specs.declared.Kind.the-variants.{Pure, Resource}
 use Rattle.sheet_rules.specs.declared.Member.the-variants.{Method, Field}
-use Rattle.sheet_rules.specs.Sheet.{noMember}
+use Rattle.sheet_rules.specs.Limits.{memberLimit}
+use Rattle.sheet_rules.specs.Sheet.{Row, noRow, noMember, rowAt}
+use Rattle.sheet_rules.specs.WellFormed.{WellFormedRow}
 use Rattle.sheet_rules.specs.RowLines.{kindOf}
-use Rattle.table.specs.Layout.{rowAddress, memberAddress}
-use Rattle.table.specs.View.{cell, memberFrom, memberIn, rowIn}
+use Rattle.table.specs.Layout.{rowAddress, memberAddress, workSize}
+use Rattle.table.specs.View.{cell, memberFrom, memberIn, rowIn, rowsIn}
+use Rattle.table.specs.Ready.{Ready}
 
 -- the addresses, without the clamps
 
@@ -68,3 +71,11 @@ members-length w i = length-tab (memberIn w i) (cell w (rowAddress i + 1))
 pub members-getD : (w : List ℕ) (i j : ℕ) → j < cell w (rowAddress i + 1) → getD ((rowIn w i) .members) j noMember ≡ memberIn w i j
 unfolding rowIn
 members-getD w i j h = getD-tab (memberIn w i) (cell w (rowAddress i + 1)) j noMember h
+
+-- rows of a well-formed sheet, in a whole buffer
+pub rows-ready : (n : ℕ) (w : List ℕ) → workSize ≤ length w → n ≤ 64 → ((i : ℕ) → WellFormedRow i (rowAt (rowsIn w n) i)) → Ready n w
+rows-ready n w size h all = record { size = size; rows = h; few = few }
+  where
+    few : (i : ℕ) → i < n → cell w (rowAddress i + 1) ≤ 8
+    few i k =
+        subst (λ (m : ℕ). m ≤ memberLimit) (ap (λ (a : Row). length (a .members)) (getD-tab (rowIn w) n i noRow k) ∙ members-length w i) ((all i) .few)

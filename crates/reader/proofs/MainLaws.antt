@@ -1,0 +1,191 @@
+-- Reading main: a law for each exit. Assumes nothing.
+use Prim.Native.Nat.{ℕ, _+_, _*_, _≤_, _<_}
+use native.Mathlib.Omega.{arith}
+use mathlib.Core.Path.{_≡_, refl, sym, ap, ap₂, _∙_, subst}
+use mathlib.Core.Bool.{cond}
+use mathlib.Core.List.{List}
+use lib.Dec.{eqb}
+use lib.ListN.{length, drop}
+use lib.Seq.{getD-set-same, getD-set-other}
+use Rattle.lists.proofs.TabLaws.{tab-ext}
+use Rattle.sheet_rules.specs.declared.Key.{Key}
+use Rattle.sheet_rules.specs.declared.Reason.{Reason}
+use Rattle.sheet_rules.specs.declared.Reason.the-variants.{Malformed}
+use Rattle.sheet_rules.specs.declared.Verdict.{Verdict}
+use Rattle.sheet_rules.specs.Lines.{linesOf}
+use Rattle.sheet_rules.specs.Sheet.{Row, Instr, Form, Sheet, sizeOfForms}
+use Rattle.sheet_rules.specs.Reader.{Read, got, refused, andThen, give, one}
+use Rattle.sheet_rules.specs.FormLines.{bodyLine, readInstrs}
+use Rattle.sheet_rules.specs.Reading.{conclude}
+use Rattle.sheet_rules.proofs.ReaderLaws.{gives-one}
+use Rattle.sheet_rules.proofs.FormLinesLaws as Body
+use Rattle.sheet_rules.proofs.FormLinesLaws.{bodyLine-room}
+use Rattle.table.specs.Layout.{rowCountAt, formCountAt, mainStartAt, mainCountAt, rowAddress, formAddress, partAddress, instrAddress, tableEnd, workSize}
+use Rattle.table.specs.View.{cell, rowIn, rowsIn, instrIn, instrsIn, formIn, formsIn, sheetIn}
+use Rattle.table.specs.Only.{Only}
+use Rattle.table.specs.Pool.{OnlyFrom, FormEnds}
+use Rattle.table.specs.Ready.{Ready}
+use Rattle.table.specs.Stores.{threePut, countsPut}
+use Rattle.table.proofs.ViewLaws.{SameFrom, only-refl, only-trans, only-widen, only-set, row-same, instr-same, part-same, form-same}
+use Rattle.table.proofs.PoolLaws.{instrs→from, row-kept, form-kept, form-ends-kept}
+use Rattle.table.proofs.StoreLaws.{three-only, three-0, three-1, three-2}
+use Rattle.line_reader.specs.declared.NumberLine.{NumberLine}
+use Rattle.line_reader.specs.declared.Progress.{Progress}
+use Rattle.line_reader.specs.Told.{Room, numberRead, readTold}
+use Rattle.read_loop.proofs.ThenLaws.{then-stop, number-then, number-stop, number-gives, moved-then, moved-stop}
+use Rattle.instr_reader.specs.Reads.{InstrsRead}
+use Rattle.form_reader.specs.Reads.{FormsUsed}
+use Rattle.reader.specs.Reads.{verdictMeans, endRest, instrsRest, mainRest, RestRead}
+use Rattle.reader.proofs.EndLaws.{at-end, not-at-end}
+
+-- the sheet's counts, stored: the counts are there, and the rest of the table is as it was
+module _ (w : List ℕ) (rows forms start count : ℕ) (size : workSize ≤ length w) where
+  pub counts-only : Only 0 4 w (countsPut w rows forms start count)
+  counts-only =
+      only-trans (only-widen (omega arith) (omega arith) (three-only w rowCountAt rows forms start))
+      (only-set 0 4 (threePut w rowCountAt rows forms start) mainCountAt count (omega arith) (omega arith))
+
+  pub count-0 : cell (countsPut w rows forms start count) rowCountAt ≡ rows
+  count-0 = getD-set-other (threePut w rowCountAt rows forms start) mainCountAt rowCountAt count 0 (λ e. omega arith) ∙ three-0 w rowCountAt rows forms start (omega arith)
+
+  pub count-1 : cell (countsPut w rows forms start count) formCountAt ≡ forms
+  count-1 = getD-set-other (threePut w rowCountAt rows forms start) mainCountAt formCountAt count 0 (λ e. omega arith) ∙ three-1 w rowCountAt rows forms start (omega arith)
+
+  pub count-2 : cell (countsPut w rows forms start count) mainStartAt ≡ start
+  count-2 = getD-set-other (threePut w rowCountAt rows forms start) mainCountAt mainStartAt count 0 (λ e. omega arith) ∙ three-2 w rowCountAt rows forms start (omega arith)
+
+  pub count-3 : cell (countsPut w rows forms start count) mainCountAt ≡ count
+  count-3 = getD-set-same (threePut w rowCountAt rows forms start) mainCountAt count 0 (omega (arith, (three-only w rowCountAt rows forms start) .size))
+
+pub counts-size : (w w₁ : List ℕ) (rows forms start count : ℕ) → workSize ≤ length w → w₁ ≡ countsPut w rows forms start count → length w₁ ≡ length w
+counts-size w w₁ rows forms start count size e = ap length e ∙ (counts-only w rows forms start count size) .size
+
+-- a buffer that is changed in its counts alone has rows and forms as they were
+module _ (w w₁ : List ℕ) (o : Only 0 4 w w₁) where
+  counts-row : (i : ℕ) → rowIn w₁ i ≡ rowIn w i
+  counts-row i = row-same w w₁ i (λ k l u. o .above k (omega arith))
+
+  counts-form : (f : ℕ) → formIn w₁ f ≡ formIn w f
+  counts-form f =
+      form-same w w₁ f (λ k l u. o .above k (omega arith))
+      (λ j h. part-same w w₁ f j (λ k l u. o .above k (omega arith)) (λ k l u t. instr-same w w₁ k (λ i a b. o .above i (omega arith))))
+
+  counts-ends : (f p : ℕ) → FormEnds w f p → FormEnds w₁ f p
+  counts-ends f p e =
+      record {
+        few = omega (arith, same, e .few);
+        ends = λ j h.
+            subst (λ (x : ℕ). x ≤ p) (sym (λ x. cond (eqb (o .above (partAddress f j) (omega arith) x) 0) 0 (o .above (partAddress f j + 1) (omega arith) x + o .above (partAddress f j + 2) (omega arith) x)))
+            (e .ends j (omega (arith, same)));
+      }
+    where
+      same : cell w₁ (formAddress f + 2) ≡ cell w (formAddress f + 2)
+      same = o .above (formAddress f + 2) (omega arith)
+
+-- the rest of a sheet, refused
+pub rest-refused : (text : List ℕ) (at n : ℕ) (q : Reason) (l : ℕ) (s : Sheet) (x : Read Sheet) (v : Verdict) → v ≡ Verdict.Refused q l → x ≡ refused q l → verdictMeans v s ≡ conclude x
+rest-refused text at n q l s x v ev ex = ap (λ (y : Verdict). verdictMeans y s) ev ∙ sym (ap conclude ex)
+
+module _ (text : List ℕ) (rows forms used at n : ℕ) (w : List ℕ) (ready : Ready rows w) (small : forms ≤ 64) (by : FormsUsed w forms used)
+    (p : NumberLine) (told : numberRead text p ≡ one (bodyLine Key.Main used) (linesOf (drop at text)) n) where
+  told-here : numberRead text p ≡ one (bodyLine Key.Main (sizeOfForms (formsIn w forms))) (linesOf (drop at text)) n
+  told-here = told ∙ ap (λ (u : ℕ). one (bodyLine Key.Main u) (linesOf (drop at text)) n) (by .counted)
+
+  pub main-refused : (q : Reason) (l : ℕ) → p ≡ NumberLine.Refused q l → (v : Verdict) → v ≡ Verdict.Refused q l
+      → RestRead text (mainRest (rowsIn w rows) forms (formsIn w forms)) at n w w v
+  unfolding mainRest
+  main-refused q l e v ev =
+      record {
+        told = rest-refused text at n q l (sheetIn w) _ v ev (number-stop text _ (instrsRest (rowsIn w rows) forms (formsIn w forms)) p told-here q l e);
+        only = only-refl 0 tableEnd w;
+      }
+
+  module _ (i at′ n′ : ℕ) (e : p ≡ NumberLine.Number i at′ n′) where
+    room-for : Body.Room used i
+    room-for = number-gives text _ p told i at′ n′ e (Body.Room used) (gives-one (Body.Room used) (bodyLine Key.Main used) (bodyLine-room Key.Main used) (linesOf (drop at text)) n)
+
+    pub main-whole : used + i ≤ 1024
+    main-whole = room-for .whole
+
+    module _ (w₁ : List ℕ) (stored : w₁ ≡ countsPut w rows forms used i) (start number : ℕ) (start-is : start ≡ used) (number-is : number ≡ i)
+        (w′ : List ℕ) (r : Progress) (m₁ : InstrsRead text start number forms 0 at′ n′ w₁ w′ r) where
+      m : InstrsRead text used i forms 0 at′ n′ w₁ w′ r
+      m =
+          subst (λ (k : ℕ). InstrsRead text used k forms 0 at′ n′ w₁ w′ r) number-is
+          (subst (λ (k : ℕ). InstrsRead text k number forms 0 at′ n′ w₁ w′ r) start-is m₁)
+
+      head-only : Only 0 4 w w₁
+      head-only = subst (Only 0 4 w) (sym stored) (counts-only w rows forms used i (ready .size))
+
+      pool-from : OnlyFrom (instrAddress 0) used w₁ w′
+      pool-from = instrs→from used i (omega arith) (room-for .some) (room-for .whole) (m .only)
+
+      main-only : Only 0 tableEnd w w′
+      main-only =
+          only-trans (only-widen (omega arith) (omega arith) head-only)
+          (only-widen (omega arith) (let a = room-for .some in let b = room-for .whole in omega arith) (m .only))
+
+      told-main : mainRest (rowsIn w rows) forms (formsIn w forms) (linesOf (drop at text)) n
+          ≡ andThen (readInstrs forms 0 i (linesOf (drop at′ text)) n′) (endRest (rowsIn w rows) (formsIn w forms))
+      unfolding mainRest instrsRest
+      told-main = number-then text _ (instrsRest (rowsIn w rows) forms (formsIn w forms)) p told-here i at′ n′ e
+
+      pub instrs-refused : (q : Reason) (l : ℕ) → r ≡ Progress.Refused q l → (v : Verdict) → v ≡ Verdict.Refused q l
+          → RestRead text (mainRest (rowsIn w rows) forms (formsIn w forms)) at n w w′ v
+      instrs-refused q l c v ev =
+          record {
+            told =
+                rest-refused text at n q l (sheetIn w′) _ v ev
+                (told-main ∙ moved-stop text _ (endRest (rowsIn w rows) (formsIn w forms)) r (instrsIn w′ used i) (m .told) q l c);
+            only = main-only;
+          }
+
+      -- the sheet that the table holds
+      cell-kept : (k : ℕ) → k < 16 → cell w′ k ≡ cell (countsPut w rows forms used i) k
+      cell-kept k h = pool-from .below k (omega arith) ∙ ap (λ (x : List ℕ). cell x k) stored
+
+      rows-there : rowsIn w′ rows ≡ rowsIn w rows
+      rows-there = tab-ext (rowIn w′) (rowIn w) rows (λ k h. row-kept (instrAddress 0) used w₁ w′ pool-from (by .few) (omega arith) k ∙ counts-row w w₁ head-only k)
+
+      forms-there : formsIn w′ forms ≡ formsIn w forms
+      forms-there =
+          tab-ext (formIn w′) (formIn w) forms
+          (λ k h. form-kept (instrAddress 0) used w₁ w′ pool-from (by .few) k (omega arith) (counts-ends w w₁ head-only k used (by .ends k h)) ∙ counts-form w w₁ head-only k)
+
+      sheet-there : sheetIn w′ ≡ record { rows = rowsIn w rows; forms = formsIn w forms; main = instrsIn w′ used i }
+      unfolding sheetIn
+      sheet-there =
+          λ x. record {
+            rows = (ap (rowsIn w′) (cell-kept rowCountAt (omega arith) ∙ count-0 w rows forms used i (ready .size)) ∙ rows-there) x;
+            forms = (ap (formsIn w′) (cell-kept formCountAt (omega arith) ∙ count-1 w rows forms used i (ready .size)) ∙ forms-there) x;
+            main =
+                instrsIn w′ ((cell-kept mainStartAt (omega arith) ∙ count-2 w rows forms used i (ready .size)) x)
+                ((cell-kept mainCountAt (omega arith) ∙ count-3 w rows forms used i (ready .size)) x);
+          }
+
+      module _ (at″ n″ : ℕ) (moved : r ≡ Progress.Moved at″ n″) where
+        told-end : mainRest (rowsIn w rows) forms (formsIn w forms) (linesOf (drop at text)) n ≡ endRest (rowsIn w rows) (formsIn w forms) (instrsIn w′ used i) (linesOf (drop at″ text)) n″
+        told-end = told-main ∙ moved-then text _ (endRest (rowsIn w rows) (formsIn w forms)) r (instrsIn w′ used i) (m .told) at″ n″ moved
+
+        pub after-main : at″ < length text → RestRead text (mainRest (rowsIn w rows) forms (formsIn w forms)) at n w w′ (Verdict.Refused Malformed n″)
+        unfolding endRest
+        after-main h =
+            record {
+              told =
+                  rest-refused text at n Malformed n″ (sheetIn w′) _ _ refl
+                  (told-end
+                  ∙ then-stop _ (λ end. give (record { rows = rowsIn w rows; forms = formsIn w forms; main = instrsIn w′ used i })) Malformed n″ (sym (not-at-end text at″ n″ h)));
+              only = main-only;
+            }
+
+        pub main-read : length text ≤ at″ → RestRead text (mainRest (rowsIn w rows) forms (formsIn w forms)) at n w w′ Verdict.Accepted
+        unfolding endRest andThen
+        main-read h =
+            record {
+              told =
+                  ap (verdictMeans Verdict.Accepted) sheet-there
+                  ∙ sym (ap conclude
+                  (told-end
+                  ∙ ap (λ x. andThen x (λ end. give (record { rows = rowsIn w rows; forms = formsIn w forms; main = instrsIn w′ used i }))) (at-end text at″ n″ h)));
+              only = main-only;
+            }

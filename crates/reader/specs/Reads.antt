@@ -1,0 +1,72 @@
+-- What reading a sheet into the table ensures. Stands on the rules of reading and on the table's view.
+use Prim.Native.Nat.{ℕ, _≤_}
+use mathlib.Core.Path.{_≡_}
+use mathlib.Core.Bool.{false, cond}
+use mathlib.Core.List.{List, []}
+use lib.Dec.{leb}
+use lib.ListN.{length, drop}
+use Rattle.sheet_rules.specs.declared.Key.{Key}
+use Rattle.sheet_rules.specs.declared.Reason.the-variants.{BufferTooShort}
+use Rattle.sheet_rules.specs.declared.Verdict.{Verdict}
+use Rattle.sheet_rules.specs.Limits.{formLimit}
+use Rattle.sheet_rules.specs.Lines.{linesOf}
+use Rattle.sheet_rules.specs.Sheet.{Row, Instr, Form, Sheet, sizeOfForms}
+use Rattle.sheet_rules.specs.Reader.{Reader, _>>=_, give, one, many, countLine}
+use Rattle.sheet_rules.specs.FormLines.{bodyLine, readInstrs, readForm}
+use Rattle.sheet_rules.specs.Reading.{Meaning, readable, unreadable, readEnd, conclude, meaning}
+use Rattle.table.specs.Layout.{tableEnd, workSize}
+use Rattle.table.specs.View.{sheetIn}
+use Rattle.table.specs.Only.{Only}
+use Rattle.line_reader.specs.declared.NumberLine.{NumberLine}
+use Rattle.line_reader.specs.declared.Progress.{Progress}
+use Rattle.part_reader.specs.declared.PoolProgress.{PoolProgress}
+
+-- a line's, or some lines', answer as a verdict
+abbrev pub numberVerdict : NumberLine → Verdict
+numberVerdict (NumberLine.Number v at n) = Verdict.Accepted
+numberVerdict (NumberLine.Refused r n) = Verdict.Refused r n
+
+abbrev pub progressVerdict : Progress → Verdict
+progressVerdict (Progress.Moved at n) = Verdict.Accepted
+progressVerdict (Progress.Refused r n) = Verdict.Refused r n
+
+abbrev pub poolVerdict : PoolProgress → Verdict
+poolVerdict (PoolProgress.Moved at n used) = Verdict.Accepted
+poolVerdict (PoolProgress.Refused r n) = Verdict.Refused r n
+
+-- what a verdict means, with the sheet that reading left
+abbrev pub verdictMeans : Verdict → Sheet → Meaning
+verdictMeans Verdict.Accepted s = readable s
+verdictMeans (Verdict.Refused r n) s = unreadable r n
+
+-- the rule's reader of a sheet: what is left of it after main's instructions, the `main` line, the forms, the rows
+unfoldable pub endRest : List Row → List Form → List Instr → Reader Sheet
+endRest rows forms main = readEnd >>= λ end. give (record { rows = rows; forms = forms; main = main })
+
+unfoldable pub instrsRest : List Row → ℕ → List Form → ℕ → Reader Sheet
+instrsRest rows f forms i = readInstrs f 0 i >>= endRest rows forms
+
+unfoldable pub mainRest : List Row → ℕ → List Form → Reader Sheet
+mainRest rows f forms = one (bodyLine Key.Main (sizeOfForms forms)) >>= instrsRest rows f forms
+
+unfoldable pub formsRest : List Row → ℕ → Reader Sheet
+formsRest rows f = many f (readForm rows f) [] >>= mainRest rows f
+
+unfoldable pub rowsRest : List Row → Reader Sheet
+rowsRest rows = one (countLine Key.Forms 0 formLimit) >>= formsRest rows
+
+-- the rest of a sheet, read from a place of the text on: the verdict and the table tell what the rule says of it
+pub record RestRead (text : List ℕ) (rest : Reader Sheet) (at n : ℕ) (w w′ : List ℕ) (v : Verdict) : Type 0 where
+  pub told : verdictMeans v (sheetIn w′) ≡ conclude (rest (linesOf (drop at text)) n)
+  pub only : Only 0 tableEnd w w′
+
+-- what a text means to a caller whose work buffer has so many numbers: 1 comes first (document 01, Turned away)
+abbrev pub meaningIn : ℕ → List ℕ → Meaning
+meaningIn size text = cond (leb workSize size) (meaning text) (unreadable BufferTooShort 0)
+
+-- the reader's promise: the verdict, and the sheet that the table then holds, are what the text means; nothing after the table
+-- has changed, and nothing at all in a buffer that is too short
+pub record SheetRead (text : List ℕ) (w w′ : List ℕ) (v : Verdict) : Type 0 where
+  pub told : verdictMeans v (sheetIn w′) ≡ meaningIn (length w) text
+  pub only : Only 0 tableEnd w w′
+  pub short : leb workSize (length w) ≡ false → w′ ≡ w

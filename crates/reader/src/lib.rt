@@ -1,0 +1,140 @@
+// A sheet's text, read into the table of the work buffer. What the table then holds is `sheetIn` of the buffer (table, View);
+// the crates above see that and the table's accessors, and never the bytes.
+ghost use mathlib.Core.Path.{_≡_};
+ghost use Prim.Native.Nat.{_≤_, _<_};
+ghost use lib.ListN.{length};
+ghost use Rattle.sheet_rules.specs.Reading.{readSheet};
+ghost use Rattle.line_reader.specs.Told.{Room};
+ghost use Rattle.table.specs.Layout.{workSize};
+ghost use Rattle.table.specs.Ready.{Ready};
+ghost use Rattle.table.specs.View.{rowsIn, formsIn};
+ghost use Rattle.form_reader.specs.Reads.{FormsUsed};
+ghost use Rattle.reader.specs.Reads.{numberVerdict, progressVerdict, poolVerdict, mainRest, rowsRest, RestRead, SheetRead};
+use line_reader::NumberLine;
+use line_reader::Progress;
+use part_reader::PoolProgress;
+use sheet_rules::Key;
+use sheet_rules::Reason;
+use sheet_rules::Verdict;
+use table::rows::wide;
+
+// The verdict of a line with one number.
+fn number_verdict(read: NumberLine) -> Verdict
+    ensures { λ r. ⌜ r ≡ numberVerdict read ⌝ }
+{
+    match read {
+        NumberLine::Number { .. } => Verdict::Accepted,
+        NumberLine::Refused { reason, line } => Verdict::Refused { reason, line },
+    }
+}
+
+// The verdict of some lines.
+fn progress_verdict(read: Progress) -> Verdict
+    ensures { λ r. ⌜ r ≡ progressVerdict read ⌝ }
+{
+    match read {
+        Progress::Moved { .. } => Verdict::Accepted,
+        Progress::Refused { reason, line } => Verdict::Refused { reason, line },
+    }
+}
+
+// The verdict of the forms.
+fn pool_verdict(read: PoolProgress) -> Verdict
+    ensures { λ r. ⌜ r ≡ poolVerdict read ⌝ }
+{
+    match read {
+        PoolProgress::Moved { .. } => Verdict::Accepted,
+        PoolProgress::Refused { reason, line } => Verdict::Refused { reason, line },
+    }
+}
+
+// Main, from a place of the text to its end, in a sheet of so many rows and forms whose bodies use so many instructions.
+fn read_main(
+    text: &[u8],
+    work: &mut [u16],
+    rows: u16,
+    forms: u16,
+    used: u16,
+    from: usize,
+    first: u32,
+) -> Verdict
+    requires { ⌜ Room (now text) from first × (forms ≤ 64) × Ready rows (now work) × FormsUsed (now work) forms used ⌝ }
+    ensures { λ r. ⌜ RestRead (now (text .entry)) (mainRest (rowsIn (now (work .entry)) rows) forms (formsIn (now (work .entry)) forms)) from first (now (work .entry)) (now (work .exit)) r ⌝ }
+{
+    let head = line_reader::read_body(text, from, first, Key::Main, used);
+    let NumberLine::Number { value, at, line } = head else {
+        return number_verdict(head);
+    };
+    table::stores::put_counts(work, rows, forms, used, value);
+    let body = instr_reader::read_instrs(text, work, wide(used), wide(value), forms, 0, at, line);
+    let Progress::Moved {
+        at: end,
+        line: last,
+    } = body
+    else {
+        return progress_verdict(body);
+    };
+    if end < text.len() {
+        return Verdict::Refused {
+            reason: Reason::Malformed,
+            line: last,
+        };
+    }
+    Verdict::Accepted
+}
+
+// Forms and main, from the `forms` line on, in a sheet of so many rows.
+fn read_after_rows(text: &[u8], work: &mut [u16], rows: u16, from: usize, first: u32) -> Verdict
+    requires { ⌜ Room (now text) from first × Ready rows (now work) ⌝ }
+    ensures { λ r. ⌜ RestRead (now (text .entry)) (rowsRest (rowsIn (now (work .entry)) rows)) from first (now (work .entry)) (now (work .exit)) r ⌝ }
+{
+    let head = line_reader::read_count(text, from, first, Key::Forms, 0, 64);
+    let NumberLine::Number { value, at, line } = head else {
+        return number_verdict(head);
+    };
+    let forms = form_reader::read_forms(text, work, rows, value, at, line);
+    let PoolProgress::Moved {
+        at: next,
+        line: n,
+        used,
+    } = forms
+    else {
+        return pool_verdict(forms);
+    };
+    read_main(text, work, rows, value, used, next, n)
+}
+
+// A whole sheet, from its `types` line on.
+fn read_from_types(text: &[u8], work: &mut [u16]) -> Verdict
+    requires { ⌜ (length (now text) ≤ 65535) × (workSize ≤ length (now work)) ⌝ }
+    ensures { λ r. ⌜ RestRead (now (text .entry)) readSheet 0 1 (now (work .entry)) (now (work .exit)) r ⌝ }
+{
+    let head = line_reader::read_count(text, 0, 1, Key::Types, 1, 64);
+    let NumberLine::Number { value, at, line } = head else {
+        return number_verdict(head);
+    };
+    let rows = row_reader::read_rows(text, work, wide(value), at, line);
+    let Progress::Moved { at: next, line: n } = rows else {
+        return progress_verdict(rows);
+    };
+    read_after_rows(text, work, value, next, n)
+}
+
+// Reads a sheet into the table: accepted so far, or refused with a reason from 1 to 7.
+pub fn read_sheet(text: &[u8], work: &mut [u16]) -> Verdict
+    ensures { λ r. ⌜ SheetRead (now (text .entry)) (now (work .entry)) (now (work .exit)) r ⌝ }
+{
+    if work.len() < 32768 {
+        return Verdict::Refused {
+            reason: Reason::BufferTooShort,
+            line: 0,
+        };
+    }
+    if text.len() > 65535 {
+        return Verdict::Refused {
+            reason: Reason::TextTooLong,
+            line: 0,
+        };
+    }
+    read_from_types(text, work)
+}
