@@ -1,10 +1,11 @@
 -- What a cleared buffer is, number by number, and a law for each turn of the loop. Assumes nothing.
-use Prim.Native.Nat.{ℕ, _+_, _-_, _≤_, _<_}
+use Prim.Native.Nat.{ℕ, suc, _+_, _-_, _≤_, _<_}
 use native.Mathlib.Omega.{arith}
-use mathlib.Core.Path.{_≡_, refl, ap, _∙_}
+use native.Mathlib.Decide.{decLe}
+use mathlib.Core.Path.{_≡_, refl, sym, ap, _∙_}
 use mathlib.Core.List.{List, _++_}
 use lib.ListN.{length, set, drop, replicate, length-append, length-drop, length-replicate, getD-replicate, List·getD-append}
-use lib.Seq.{getD-append-add, getD-drop}
+use lib.Seq.{getD-append-add, getD-drop, ext-getD}
 use borrow.Author.Fill.{fill-more}
 use Rattle.table.specs.Layout.{workSize}
 use Rattle.table.specs.View.{cell}
@@ -62,6 +63,20 @@ cleared-kept w i h = to-kept workSize w i h
 pub cleared-only : (w : List ℕ) → workSize ≤ length w → Only 0 workSize w (cleared w)
 cleared-only w h =
     record { size = cleared-length w h; below = λ i k. absurd (omega arith); above = λ i k. cleared-kept w i k }
+
+-- what stood in its first numbers has no influence
+pub cleared-same : (w w′ : List ℕ) → workSize ≤ length w → Only 0 workSize w w′ → cleared w′ ≡ cleared w
+cleared-same w w′ h o =
+    ext-getD 0 (cleared w′) (cleared w) (cleared-length w′ (omega (arith, o .size)) ∙ o .size ∙ sym (cleared-length w h)) (λ i k. each i)
+  where
+    each : (i : ℕ) → cell (cleared w′) i ≡ cell (cleared w) i
+    each i = go (decLe (suc i) workSize)
+      where
+        go : Dec (suc i ≤ workSize) → cell (cleared w′) i ≡ cell (cleared w) i
+        go (yes k) = cleared-zero w′ i k ∙ sym (cleared-zero w i k)
+        go (no k) =
+            let l : workSize ≤ i = omega arith in
+            cleared-kept w′ i l ∙ o .above i l ∙ sym (cleared-kept w i l)
 
 -- the loop
 

@@ -13,8 +13,8 @@ use Rattle.sheet_rules.specs.Limits.{memberLimit}
 use Rattle.sheet_rules.specs.Sheet.{Row, noRow, noMember, rowAt}
 use Rattle.sheet_rules.specs.WellFormed.{WellFormedRow}
 use Rattle.sheet_rules.specs.RowLines.{kindOf}
-use Rattle.table.specs.Layout.{rowAddress, memberAddress, workSize}
-use Rattle.table.specs.View.{cell, memberFrom, memberIn, rowIn, rowsIn}
+use Rattle.table.specs.Layout.{rowCountAt, rowAddress, memberAddress, workSize}
+use Rattle.table.specs.View.{cell, memberFrom, memberIn, rowIn, rowsIn, sheetIn}
 use Rattle.table.specs.Ready.{Ready}
 
 -- the addresses, without the clamps
@@ -71,6 +71,11 @@ members-length w i = length-tab (memberIn w i) (cell w (rowAddress i + 1))
 pub members-getD : (w : List ℕ) (i j : ℕ) → j < cell w (rowAddress i + 1) → getD ((rowIn w i) .members) j noMember ≡ memberIn w i j
 unfolding rowIn
 members-getD w i j h = getD-tab (memberIn w i) (cell w (rowAddress i + 1)) j noMember h
+
+-- how many rows a sheet has
+pub rows-length : (w : List ℕ) → length ((sheetIn w) .rows) ≡ cell w rowCountAt
+unfolding sheetIn
+rows-length w = length-tab (rowIn w) (cell w rowCountAt)
 
 -- rows of a well-formed sheet, in a whole buffer
 pub rows-ready : (n : ℕ) (w : List ℕ) → workSize ≤ length w → n ≤ 64 → ((i : ℕ) → WellFormedRow i (rowAt (rowsIn w n) i)) → Ready n w

@@ -2,7 +2,7 @@
 ghost use mathlib.Core.Path.{_≡_};
 ghost use Prim.Native.Nat.{_≤_, _<_, _+_, min};
 ghost use lib.ListN.{length};
-ghost use Rattle.table.specs.Layout.{rowAddress, fitAddress, workSize};
+ghost use Rattle.table.specs.Layout.{rowCountAt, rowAddress, fitAddress, workSize};
 ghost use Rattle.table.specs.View.{cell as cellOf, memberIn, rowIn};
 use sheet_rules::Kind;
 use sheet_rules::Member;
@@ -12,6 +12,14 @@ pub fn wide(x: u16) -> usize
     ensures { λ r. ⌜ r ≡ x ⌝ }
 {
     x as usize
+}
+
+// How many rows the sheet has.
+pub fn row_count(work: &[u16]) -> usize
+    requires { ⌜ workSize ≤ length (now work) ⌝ }
+    ensures { λ r. ⌜ r ≡ cellOf (now (work .entry)) rowCountAt ⌝ }
+{
+    wide(work[0])
 }
 
 // The kind of row i.

@@ -1,0 +1,121 @@
+-- The fit question: a law for each exit. Assumes nothing.
+use Prim.Native.Nat.{ℕ, _≤_, _<_}
+use native.Mathlib.Omega.{arith}
+use mathlib.Core.Path.{_≡_, refl, sym, ap, _∙_, subst}
+use mathlib.Core.Bool.{Bool, true, false, cond, _&&_}
+use mathlib.Core.List.{List}
+use lib.Dec.{leb, ltb}
+use lib.ListN.{length}
+use borrow.Author.Tests.{lt-ltb, le-ltb, le-leb, lt-leb}
+use Rattle.lists.proofs.TabLaws.{length-tab}
+use Rattle.sheet_rules.specs.declared.Reason.{Reason}
+use Rattle.sheet_rules.specs.declared.Reason.the-variants.{BufferTooShort, NotDefined}
+use Rattle.sheet_rules.specs.declared.Verdict.{Verdict}
+use Rattle.sheet_rules.specs.Sheet.{Sheet}
+use Rattle.sheet_rules.specs.Reading.{Meaning, readable, unreadable, meaning}
+use Rattle.sheet_rules.specs.WellFormed.{WellFormed}
+use Rattle.type_rules.specs.declared.FitReply.{FitReply}
+use Rattle.type_rules.specs.Fit.{fits}
+use Rattle.type_rules.specs.FitQuestion.{fitIn, fitOn, fitReply}
+use Rattle.table.specs.Layout.{rowCountAt, tableEnd, slotRowAddress, workSize}
+use Rattle.table.specs.View.{cell, rowIn, sheetIn}
+use Rattle.table.specs.Only.{Only}
+use Rattle.table.proofs.ViewLaws.{only-refl, only-trans, only-widen}
+use Rattle.clear.specs.Cleared.{cleared}
+use Rattle.clear.proofs.ClearLaws.{cleared-same}
+use Rattle.reader.specs.Reads.{verdictMeans, SheetRead}
+use Rattle.reader.proofs.SheetLaws.{read-means, read-wellFormed}
+use Rattle.fit.specs.Told.{tells, FitFilled}
+use Rattle.fit.proofs.SheetLaws.{sheet-tells}
+use Rattle.fit_question.specs.Asked.{replyIn, workLeft, FitAsked, Answered}
+
+-- over the table
+
+module _ (a b : ℕ) (w : List ℕ) (rows : ℕ) (counted : rows ≡ length ((sheetIn w) .rows)) where
+  answer : Bool → Bool → FitReply
+  answer x y = cond (x && y) (cond (fits ((sheetIn w) .rows) a b) FitReply.Fits FitReply.FitsNot) (FitReply.Refused NotDefined 0)
+
+  answer-no : (x : Bool) → answer x false ≡ FitReply.Refused NotDefined 0
+  unfolding answer
+  answer-no true = refl
+  answer-no false = refl
+
+  answer-in : fitIn (sheetIn w) a b ≡ answer (ltb a (length ((sheetIn w) .rows))) (ltb b (length ((sheetIn w) .rows)))
+  unfolding answer
+  answer-in = refl
+
+  pub no-row-a : rows ≤ a → Answered (fitIn (sheetIn w) a b) w w (FitReply.Refused NotDefined 0)
+  unfolding answer
+  no-row-a h =
+      record {
+        same = sym (answer-in ∙ ap (λ (x : Bool). answer x (ltb b (length ((sheetIn w) .rows)))) (le-ltb a (length ((sheetIn w) .rows)) (omega arith)));
+        only = only-refl 0 workSize w;
+      }
+
+  pub no-row-b : rows ≤ b → Answered (fitIn (sheetIn w) a b) w w (FitReply.Refused NotDefined 0)
+  no-row-b h =
+      record {
+        same =
+            sym (answer-in ∙ ap (answer (ltb a (length ((sheetIn w) .rows)))) (le-ltb b (length ((sheetIn w) .rows)) (omega arith))
+            ∙ answer-no (ltb a (length ((sheetIn w) .rows))));
+        only = only-refl 0 workSize w;
+      }
+
+  module _ (ha : a < rows) (hb : b < rows) (counted-here : rows ≡ cell w rowCountAt) (w′ : List ℕ) (filled : FitFilled rows w w′) where
+    there : fitIn (sheetIn w) a b ≡ cond (tells w′ a b) FitReply.Fits FitReply.FitsNot
+    unfolding answer
+    there =
+        answer-in
+        ∙ ap (λ (x : Bool). answer x (ltb b (length ((sheetIn w) .rows)))) (lt-ltb a (length ((sheetIn w) .rows)) (omega arith))
+        ∙ ap (answer true) (lt-ltb b (length ((sheetIn w) .rows)) (omega arith))
+        ∙ ap (λ (x : Bool). cond x FitReply.Fits FitReply.FitsNot)
+        (sym (sheet-tells w w′ (subst (λ (n : ℕ). FitFilled n w w′) counted-here filled) a b (omega arith) (omega arith)))
+
+    pub fit-told : (t : Bool) → t ≡ tells w′ a b → (x : Bool) → t ≡ x → Answered (fitIn (sheetIn w) a b) w w′ (cond x FitReply.Fits FitReply.FitsNot)
+    fit-told t e x c =
+        record {
+          same = sym (there ∙ ap (λ (y : Bool). cond y FitReply.Fits FitReply.FitsNot) (sym e ∙ c));
+          only = only-widen (omega arith) (omega arith) (filled .only);
+        }
+
+-- after reading
+
+module _ (text : List ℕ) (a b : ℕ) (w w₁ : List ℕ) (v : Verdict) (size : workSize ≤ length w) (s : SheetRead text w w₁ v) where
+  pub reply-sheet : v ≡ Verdict.Accepted → WellFormed (sheetIn w₁)
+  reply-sheet e = read-wellFormed text w w₁ size (subst (SheetRead text w w₁) e s)
+
+  pub reply-read : v ≡ Verdict.Accepted → (w′ : List ℕ) (r : FitReply) → Answered (fitIn (sheetIn w₁) a b) w₁ w′ r → Answered (fitReply text a b) w w′ r
+  unfolding fitReply
+  reply-read e w′ r k =
+      record {
+        same = k .same ∙ ap (λ (m : Meaning). fitOn m a b) (sym (read-means text w w₁ size (subst (SheetRead text w w₁) e s)));
+        only = only-trans (only-widen (omega arith) (omega arith) (s .only)) (k .only);
+      }
+
+  pub reply-refused : (q : Reason) (l : ℕ) → v ≡ Verdict.Refused q l → Answered (fitReply text a b) w w₁ (FitReply.Refused q l)
+  unfolding fitReply
+  reply-refused q l e =
+      record {
+        same =
+            ap (λ (m : Meaning). fitOn m a b)
+            (ap (λ (x : Verdict). verdictMeans x (sheetIn w₁)) (sym e) ∙ s .told
+            ∙ ap (λ (x : Bool). cond x (meaning text) (unreadable BufferTooShort 0)) (le-leb workSize (length w) size));
+        only = only-widen (omega arith) (omega arith) (s .only);
+      }
+
+-- the question
+
+module _ (text : List ℕ) (a b : ℕ) (w : List ℕ) where
+  pub asked-short : length w < workSize → FitAsked text a b w w (FitReply.Refused BufferTooShort 0)
+  asked-short h =
+      record {
+        told = sym (ap (λ (x : Bool). cond x (fitReply text a b) (FitReply.Refused BufferTooShort 0)) (lt-leb workSize (length w) h));
+        left = sym (ap (λ (x : Bool). cond x (cleared w) w) (lt-leb workSize (length w) h));
+      }
+
+  pub asked : workSize ≤ length w → (w₁ : List ℕ) (r : FitReply) → Answered (fitReply text a b) w w₁ r → (w′ : List ℕ) → w′ ≡ cleared w₁ → FitAsked text a b w w′ r
+  asked h w₁ r k w′ e =
+      record {
+        told = k .same ∙ sym (ap (λ (x : Bool). cond x (fitReply text a b) (FitReply.Refused BufferTooShort 0)) (le-leb workSize (length w) h));
+        left = e ∙ cleared-same w w₁ h (k .only) ∙ sym (ap (λ (x : Bool). cond x (cleared w) w) (le-leb workSize (length w) h));
+      }
