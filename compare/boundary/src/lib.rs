@@ -1,0 +1,41 @@
+//! The questions of the proved library, called as a terminal calls them.
+
+/// So many numbers of the work buffer are used.
+pub const WORK: usize = 32_768;
+
+/// The fit question's answer: a refusal's number or 0, its line or 0, and 1
+/// for yes.
+#[repr(C)]
+#[derive(Clone, Copy, Debug, PartialEq, Eq)]
+pub struct FitResult {
+    pub refusal: u32,
+    pub line: u32,
+    pub fits: u32,
+}
+
+extern "C" {
+    fn lexondar_fit(
+        text: *const u8,
+        text_len: usize,
+        a: usize,
+        b: usize,
+        work: *mut u16,
+        work_len: usize,
+    ) -> FitResult;
+}
+
+/// Whether row a of the text's sheet fits row b.
+pub fn fit(text: &[u8], a: usize, b: usize, work: &mut [u16]) -> FitResult {
+    // SAFETY: both slices are valid for the call, and the library keeps
+    // neither.
+    unsafe {
+        lexondar_fit(
+            text.as_ptr(),
+            text.len(),
+            a,
+            b,
+            work.as_mut_ptr(),
+            work.len(),
+        )
+    }
+}

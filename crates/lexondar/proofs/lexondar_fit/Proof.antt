@@ -1,0 +1,28 @@
+use mathlib.Core.Path.{ap, _∙_}
+use Rattle.lexondar.specs.Boundary.{fitResult}
+use borrow.Author.Needs.{needs}
+use Rattle.lexondar.proofs.lexondar_fit.Statement.{statement}
+use Rattle.lexondar.proofs.lexondar_fit.Tie as tie
+use Rattle.lexondar.proofs.lexondar_fit.Reads as reads
+use Rattle.lexondar.proofs.lexondar_fit.Lts as lts
+use Rattle.fit_question.proofs.ask_fit.Reads as ask-fit-reads
+use Rattle.lexondar.proofs.fit_result.Reads as fit-result-reads
+
+-- src/lib.rt:65:16
+ask-fit-requires : tie.Need-ask-fit-requires
+ask-fit-requires c κs = search needs
+
+-- src/lib.rt:65:5
+fit-result-requires : tie.Need-fit-result-requires
+fit-result-requires c κs = search needs
+
+-- src/lib.rt:61:1
+same-length : tie.Need-same-length
+same-length c = search needs
+
+-- src/lib.rt:61:1
+returns : tie.Need-returns
+returns c = (c .fit-result .ensures ∙ ap fitResult (c .before .before .before .ask-fit .ensures .told), c .before .before .before .ask-fit .ensures .left)
+
+pub lexondar-fit-spec : {M : Type 1} → statement M
+lexondar-fit-spec = tie.close (tie.spec ask-fit-requires fit-result-requires same-length returns)

@@ -1,0 +1,10 @@
+-- What the library's answers are in numbers, as a caller in C has them (document 01, Turned away). Stands on the answers.
+use Rattle.sheet_rules.specs.Answers.{numberOf}
+use Rattle.type_rules.specs.declared.FitReply.{FitReply}
+use Rattle.lexondar.specs.declared.FitResult.{FitResult}
+
+-- the fit question: refusal number or 0, its line or 0, and 1 for yes
+abbrev pub fitResult : FitReply → FitResult
+fitResult FitReply.Fits = record { refusal = 0; line = 0; fits = 1 }
+fitResult FitReply.FitsNot = record { refusal = 0; line = 0; fits = 0 }
+fitResult (FitReply.Refused r n) = record { refusal = numberOf r; line = n; fits = 0 }
