@@ -4,3 +4,4 @@ pub mod FitLaws
 pub mod TypingLaws
 pub mod LookUpLaws
 pub mod TypedLaws
+pub mod AgreeLaws
