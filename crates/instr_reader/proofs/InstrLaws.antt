@@ -3,14 +3,17 @@ use Prim.Native.Nat.{ℕ, suc, _+_, _≤_}
 use native.Mathlib.Omega.{arith}
 use native.Mathlib.Numerals.{add-one}
 use mathlib.Core.Path.{_≡_, refl, sym, ap, ap₂, _∙_}
+use mathlib.Core.Bool.{Bool, true, false}
 use mathlib.Core.List.{List}
+use lib.Dec.{T}
 use lib.ListN.{drop}
 use Rattle.sheet_rules.specs.declared.Key.{Key}
 use Rattle.sheet_rules.specs.declared.Reason.{Reason}
 use Rattle.sheet_rules.specs.declared.Reason.the-variants.{Malformed}
 use Rattle.sheet_rules.specs.Lines.{Line, linesOf}
 use Rattle.sheet_rules.specs.Sheet.{Instr}
-use Rattle.sheet_rules.specs.Reader.{good, bad, got, refused, settle, one}
+use Rattle.sheet_rules.specs.Keys.{codeOf, hasInstructionKey}
+use Rattle.sheet_rules.specs.Reader.{Judged, good, bad, demand, got, refused, settle, one}
 use Rattle.sheet_rules.specs.FormLines.{instrOf, instrLine}
 use Rattle.lexer.specs.declared.Numbers.{Numbers}
 use Rattle.lexer.specs.declared.LineRead.{LineRead}
@@ -18,11 +21,14 @@ use Rattle.lexer.specs.Scan.{listOf, lineAt}
 use Rattle.judges.specs.declared.LineJudged.{LineJudged}
 use Rattle.judges.specs.Told.{lineTold}
 use Rattle.judges.proofs.StrictLaws.{strict-instr, one-torn, one-line, Taken, line-taken}
+use Rattle.lists.proofs.Tests.{clash}
 use Rattle.table.specs.Layout.{instrAddress}
+use Rattle.table.specs.View.{instrFrom}
 use Rattle.table.proofs.ViewLaws.{only-refl}
 use Rattle.line_reader.specs.declared.Progress.{Progress}
 use Rattle.line_reader.specs.Told.{Room, Advanced}
-use Rattle.instr_reader.specs.Reads.{StoredInstr, InstrRead}
+use Rattle.instr_reader.specs.Reads.{nineOf, StoredInstr, InstrRead}
+use Rattle.instr_reader.proofs.CountLaws.{stored-rule}
 
 settle-bad : (q : Reason) (ls : List Line) (n : ℕ) → settle {A = Instr} (bad q) ls n ≡ refused q n
 unfolding settle
@@ -31,6 +37,15 @@ settle-bad q ls n = refl
 settle-good : (x : Instr) (ls : List Line) (n : ℕ) → settle (good x) ls n ≡ got x ls (suc n)
 unfolding settle
 settle-good x ls n = refl
+
+-- a line that was judged good has an instruction's key
+good-key : (forms filled : ℕ) (k : Key) (ns : List ℕ) (i : Instr) → instrLine forms filled k ns ≡ good i → T (hasInstructionKey k ns)
+unfolding instrLine demand
+good-key forms filled k ns i e = go (hasInstructionKey k ns) _ e
+  where
+    go : (b : Bool) (x : Judged Instr) → demand b Malformed x ≡ good i → T b
+    go true x e = tt
+    go false x e = clash (cc)
 
 module _ (text : List ℕ) (p forms filled at n : ℕ) (w : List ℕ) where
   refuses : (q : Reason) → refused q n ≡ one (instrLine forms filled) (linesOf (drop at text)) n → InstrRead text p forms filled at n w w (Progress.Refused q n)
@@ -51,17 +66,20 @@ module _ (text : List ℕ) (p forms filled at n : ℕ) (w : List ℕ) where
     pub instr-refused : (q : Reason) → jd ≡ LineJudged.Refused q → InstrRead text p forms filled at n w w (Progress.Refused q n)
     instr-refused q c = refuses q (sym (judged (LineJudged.Refused q) c ∙ settle-bad q (linesOf (drop next text)) n))
 
-    pub instr-kept : Room text at n → jd ≡ LineJudged.Good → (w′ : List ℕ) → StoredInstr p (instrOf k (listOf ns)) w w′
+    pub instr-kept : Room text at n → jd ≡ LineJudged.Good → (w′ : List ℕ) → StoredInstr p (instrFrom (codeOf k) (ns .count) (nineOf ns)) w w′
         → InstrRead text p forms filled at n w w′ (Progress.Moved next (n + 1))
     instr-kept room c w′ s =
         record {
           told =
-              ap₂ (λ (i : Instr) (m : ℕ). got i (linesOf (drop next text)) m) (s .holds) (add-one n)
+              ap₂ (λ (i : Instr) (m : ℕ). got i (linesOf (drop next text)) m) (s .holds ∙ stored-rule k ns has-key) (add-one n)
               ∙ sym (judged LineJudged.Good c ∙ settle-good (instrOf k (listOf ns)) (linesOf (drop next text)) n);
           only = s .only;
           advanced = Advanced.moved later (record { small = room .small; inside = t .inside; lines = lines });
         }
       where
+        has-key : T (hasInstructionKey k (listOf ns))
+        has-key = good-key forms filled k (listOf ns) (instrOf k (listOf ns)) (sym told ∙ ap (λ x. lineTold x (good (instrOf k (listOf ns)))) c)
+
         t : Taken text at k ns next
         t = line-taken text at k ns next e
 

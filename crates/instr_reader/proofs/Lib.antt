@@ -1,3 +1,4 @@
 pub mod StoreLaws
+pub mod CountLaws
 pub mod InstrLaws
 pub mod InstrsLaws

@@ -4,21 +4,19 @@ use native.Mathlib.Omega.{arith}
 use mathlib.Core.Path.{_≡_, refl, sym, ap, _∙_, subst}
 use mathlib.Core.List.{List, [], _∷_}
 use lib.Dec.{lit≤}
-use lib.ListN.{length, getD, set, length-set, take}
+use lib.ListN.{length, getD, set, length-set}
 use lib.Seq.{getD-set-same, getD-set-other}
 use Rattle.lists.specs.Tab.{tab}
 use Rattle.lists.proofs.TabLaws.{tab-ext}
 use Rattle.sheet_rules.specs.declared.Key.{Key}
 use Rattle.sheet_rules.specs.declared.Key.the-variants.{Types, Row, Def, Var, Forms, Form, Keep, Init, Body, Main, New, Call, Get, Put, Copy, Unknown}
 use Rattle.sheet_rules.specs.Keys.{codeOf}
-use Rattle.sheet_rules.specs.FormLines.{instrOf}
 use Rattle.lexer.specs.declared.Numbers.{Numbers}
-use Rattle.lexer.specs.Scan.{listOf}
 use Rattle.table.specs.Layout.{instrAddress, workSize}
 use Rattle.table.specs.View.{cell, instrFrom, instrIn}
 use Rattle.table.specs.Only.{Only}
 use Rattle.table.proofs.ViewLaws.{only-refl, only-set, only-trans}
-use Rattle.instr_reader.specs.Reads.{firstSix, lastFive, StoredInstr}
+use Rattle.instr_reader.specs.Reads.{firstSix, lastFive, nineOf, StoredInstr}
 
 -- numbers stored one after another, from place at + k on
 abbrev run : List ℕ → ℕ → ℕ → List ℕ → List ℕ
@@ -70,32 +68,27 @@ module _ (w : List ℕ) (at code : ℕ) (ns : Numbers) where
     eleven-tail m l = run-at (tail ns) (set w at code) at 1 m l (omega (arith, length-set w at code))
 
     eleven-numbers : tab (λ k. cell (eleven w at code ns) (at + (2 + k))) 9
-        ≡ ns .n0 ∷ ns .n1 ∷ ns .n2 ∷ ns .n3 ∷ ns .n4 ∷ ns .n5 ∷ ns .n6 ∷ ns .n7 ∷ ns .n8 ∷ []
+        ≡ nineOf ns
     unfolding tab
     eleven-numbers =
         tab-ext (λ k. cell (eleven w at code ns) (at + (2 + k))) (λ k. getD (tail ns) (suc k) 0) 9
         (λ k u. let e : at + (2 + k) ≡ at + (1 + suc k) = omega arith in ap (λ (x : ℕ). cell (eleven w at code ns) x) e ∙ eleven-tail (suc k) (omega arith))
 
 eleven-instr : (w : List ℕ) (p code : ℕ) (ns : Numbers) → workSize ≤ length w
-    → instrIn (eleven w (instrAddress p) code ns) p ≡ instrFrom code (listOf ns)
-unfolding instrIn listOf
+    → instrIn (eleven w (instrAddress p) code ns) p ≡ instrFrom code (ns .count) (nineOf ns)
+unfolding instrIn
 eleven-instr w p code ns h =
     let z : instrAddress p + 11 ≤ length w = omega arith in
-    λ x. instrFrom (eleven-code w (instrAddress p) code ns z x)
-    (take (eleven-tail w (instrAddress p) code ns z 0 (omega arith) x) (eleven-numbers w (instrAddress p) code ns z x))
-
-instr-from : (k : Key) (ns : List ℕ) → instrFrom (codeOf k) ns ≡ instrOf k ns
-unfolding instrFrom instrOf
-instr-from k ns = refl
+    λ x. instrFrom (eleven-code w (instrAddress p) code ns z x) (eleven-tail w (instrAddress p) code ns z 0 (omega arith) x) (eleven-numbers w (instrAddress p) code ns z x)
 
 -- what storing leaves
 pub stored-eleven : (w w′ : List ℕ) (p : ℕ) (k : Key) (ns : Numbers) (at code : ℕ) → workSize ≤ length w → at ≡ instrAddress p → code ≡ codeOf k
-    → w′ ≡ eleven w at code ns → StoredInstr p (instrOf k (listOf ns)) w w′
+    → w′ ≡ eleven w at code ns → StoredInstr p (instrFrom (codeOf k) (ns .count) (nineOf ns)) w w′
 stored-eleven w w′ p k ns at code h place c e =
     record {
       holds =
           ap (λ (x : List ℕ). instrIn x p) there ∙ eleven-instr w p code ns h
-          ∙ ap (λ (x : ℕ). instrFrom x (listOf ns)) c ∙ instr-from k (listOf ns);
+          ∙ ap (λ (x : ℕ). instrFrom x (ns .count) (nineOf ns)) c;
       only = subst (Only (instrAddress p) (instrAddress p + 11) w) (sym there) (eleven-only w (instrAddress p) code ns);
     }
   where

@@ -1,7 +1,7 @@
 -- What reading instructions into the table ensures. Stands on reading, the table's view, and the readers of lines.
 use Prim.Native.Nat.{ℕ, _+_, _*_}
 use mathlib.Core.Path.{_≡_}
-use mathlib.Core.List.{List}
+use mathlib.Core.List.{List, [], _∷_}
 use lib.ListN.{set}
 use Rattle.sheet_rules.specs.Sheet.{Instr}
 use Rattle.sheet_rules.specs.Reader.{one}
@@ -21,6 +21,10 @@ firstSix w at code ns =
 abbrev pub lastFive : List ℕ → ℕ → Numbers → List ℕ
 lastFive w at ns =
     set (set (set (set (set w (at + 6) (ns .n4)) (at + 7) (ns .n5)) (at + 8) (ns .n6)) (at + 9) (ns .n7)) (at + 10) (ns .n8)
+
+-- the nine numbers of a line, with those that it has not
+abbrev pub nineOf : Numbers → List ℕ
+nineOf ns = ns .n0 ∷ ns .n1 ∷ ns .n2 ∷ ns .n3 ∷ ns .n4 ∷ ns .n5 ∷ ns .n6 ∷ ns .n7 ∷ ns .n8 ∷ []
 
 -- instruction p of the pool is now this one, and nothing else has changed
 pub record StoredInstr (p : ℕ) (i : Instr) (w w′ : List ℕ) : Type 0 where

@@ -2,11 +2,11 @@
 ghost use mathlib.Core.Path.{_≡_};
 ghost use Prim.Native.Nat.{_≤_, _<_, _+_};
 ghost use lib.ListN.{length};
-ghost use Rattle.sheet_rules.specs.FormLines.{instrOf};
-ghost use Rattle.lexer.specs.Scan.{listOf};
+ghost use Rattle.sheet_rules.specs.Keys.{codeOf};
 ghost use Rattle.table.specs.Layout.{workSize};
+ghost use Rattle.table.specs.View.{instrFrom};
 ghost use Rattle.line_reader.specs.Told.{Room};
-ghost use Rattle.instr_reader.specs.Reads.{firstSix, lastFive, StoredInstr, InstrRead, InstrsRead};
+ghost use Rattle.instr_reader.specs.Reads.{firstSix, lastFive, nineOf, StoredInstr, InstrRead, InstrsRead};
 use judges::LineJudged;
 use lexer::LineRead;
 use lexer::Numbers;
@@ -42,7 +42,7 @@ fn store_tail(work: &mut [u16], at: usize, numbers: Numbers)
 // Stores an instruction line as instruction p of the pool.
 fn store_instr(work: &mut [u16], p: usize, key: Key, numbers: Numbers)
     requires { ⌜ (p < 1024) × (numbers .count ≤ 9) × (workSize ≤ length (now work)) ⌝ }
-    ensures { λ r. ⌜ StoredInstr p (instrOf key (listOf numbers)) (now (work .entry)) (now (work .exit)) ⌝ }
+    ensures { λ r. ⌜ StoredInstr p (instrFrom (codeOf key) (numbers .count) (nineOf numbers)) (now (work .entry)) (now (work .exit)) ⌝ }
 {
     let facts = judges::key_facts(key);
     let at = 4624 + 11 * p;

@@ -3,3 +3,5 @@ pub mod RowLaws
 pub mod FormLaws
 pub mod PoolLaws
 pub mod StoreLaws
+pub mod SheetLaws
+pub mod InstrLaws

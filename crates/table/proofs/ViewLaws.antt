@@ -6,7 +6,7 @@ use mathlib.Core.Path.{_≡_, refl, ap, ap₂, _∙_}
 use mathlib.Core.Bool.{Bool, true, false, cond}
 use mathlib.Core.List.{List}
 use lib.Dec.{eqb}
-use lib.ListN.{set, take, length-set}
+use lib.ListN.{set, length-set}
 use lib.Seq.{getD-set-other}
 use Rattle.lists.proofs.TabLaws.{tab-ext}
 use Rattle.sheet_rules.specs.declared.Member.{Member}
@@ -70,8 +70,8 @@ row-same w w′ i h =
 pub instr-same : (w w′ : List ℕ) (p : ℕ) → SameFrom (instrAddress p) 11 w w′ → instrIn w′ p ≡ instrIn w p
 unfolding instrIn
 instr-same w w′ p h =
-    ap₂ (λ (c n : ℕ). instrFrom c (take n (numbersIn w′ p))) (h (instrAddress p) (omega arith) (omega arith)) (h (instrAddress p + 1) (omega arith) (omega arith))
-    ∙ ap (λ (ns : List ℕ). instrFrom (cell w (instrAddress p)) (take (cell w (instrAddress p + 1)) ns))
+    ap₂ (λ (c n : ℕ). instrFrom c n (numbersIn w′ p)) (h (instrAddress p) (omega arith) (omega arith)) (h (instrAddress p + 1) (omega arith) (omega arith))
+    ∙ ap (instrFrom (cell w (instrAddress p)) (cell w (instrAddress p + 1)))
     (tab-ext (λ k. cell w′ (instrAddress p + (2 + k))) (λ k. cell w (instrAddress p + (2 + k))) 9
     (λ k u. h (instrAddress p + (2 + k)) (omega arith) (omega arith)))
 

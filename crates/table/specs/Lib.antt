@@ -4,3 +4,5 @@ pub mod Only
 pub mod Pool
 pub mod Stores
 pub mod Ready
+pub mod Whole
+pub mod Told

@@ -41,17 +41,17 @@ rowsIn w n = tab (rowIn w) n
 abbrev pub numbersIn : List ℕ → ℕ → List ℕ
 numbersIn w p = tab (λ k. cell w (instrAddress p + (2 + k))) 9
 
--- an instruction from its key's code and its numbers
-unfoldable pub instrFrom : ℕ → List ℕ → Instr
-instrFrom code ns =
-    cond (eqb code 10) (new (nth ns 0) (drop 1 ns))
+-- an instruction from its key's code, how many numbers it has, and all nine; only a `new` has more or fewer of them
+unfoldable pub instrFrom : ℕ → ℕ → List ℕ → Instr
+instrFrom code count ns =
+    cond (eqb code 10) (new (nth ns 0) (drop 1 (take count ns)))
     (cond (eqb code 11) (call (nth ns 0) (nth ns 1) (nth ns 2))
     (cond (eqb code 12) (get (nth ns 0))
     (cond (eqb code 13) (put (nth ns 0) (nth ns 1)) (copy (nth ns 0)))))
 
 -- instruction p of the pool
 unfoldable pub instrIn : List ℕ → ℕ → Instr
-instrIn w p = instrFrom (cell w (instrAddress p)) (take (cell w (instrAddress p + 1)) (numbersIn w p))
+instrIn w p = instrFrom (cell w (instrAddress p)) (cell w (instrAddress p + 1)) (numbersIn w p)
 
 -- n instructions from p on
 abbrev pub instrsIn : List ℕ → ℕ → ℕ → List Instr

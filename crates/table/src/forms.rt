@@ -1,95 +1,76 @@
-// The forms and the instructions that the work buffer holds, read by number.
+// The forms that the work buffer holds, read by number. A number that is not there is answered as the rules answer it.
 ghost use mathlib.Core.Path.{_≡_};
-ghost use Prim.Native.Nat.{_≤_, _<_, _+_};
-ghost use lib.ListN.{length};
-ghost use Rattle.table.specs.Layout.{formAddress, keepAddress, partAddress, instrAddress, workSize};
-ghost use Rattle.table.specs.View.{cell as cellOf};
+ghost use Prim.Native.Nat.{_≤_, _<_};
+ghost use lib.ListN.{length, getD};
+ghost use Rattle.sheet_rules.specs.Sheet.{formAt};
+ghost use Rattle.table.specs.Layout.{workSize};
+ghost use Rattle.table.specs.Told.{partTold};
+ghost use Rattle.table.specs.View.{partIn, sheetIn};
+ghost use Rattle.table.specs.Whole.{Whole};
 use crate::rows::wide;
 
-// The number at a place of the buffer, to count or to index with.
-fn number(work: &[u16], at: usize) -> usize
-    requires { ⌜ at < length (now work) ⌝ }
-    ensures { λ r. ⌜ r ≡ cellOf (now (work .entry)) at ⌝ }
+// A part of a form: the kept value of an `init`, or where a body's instructions stand and how many they are.
+pub enum PartPlace {
+    Init { kept: u16 },
+    Body { start: u16, count: u16 },
+}
+
+// How many forms the sheet has.
+pub fn form_count(work: &[u16]) -> usize
+    requires { ⌜ Whole (now work) ⌝ }
+    ensures { λ r. ⌜ (r ≡ length ((sheetIn (now (work .entry))) .forms)) × (r ≤ 64) ⌝ }
 {
-    wide(work[at])
+    wide(work[1])
 }
 
 // The row of form f.
-pub fn form_row(work: &[u16], f: usize) -> usize
-    requires { ⌜ (f < 64) × (workSize ≤ length (now work)) ⌝ }
-    ensures { λ r. ⌜ r ≡ cellOf (now (work .entry)) (formAddress f) ⌝ }
+pub fn form_row(work: &[u16], f: usize) -> u16
+    requires { ⌜ Whole (now work) ⌝ }
+    ensures { λ r. ⌜ r ≡ (formAt (sheetIn (now (work .entry))) f) .row ⌝ }
 {
-    number(work, 2320 + 36 * f)
+    if form_count(work) <= f {
+        return 0;
+    }
+    work[2320 + 36 * f]
 }
 
 // How many values form f keeps.
 pub fn keep_count(work: &[u16], f: usize) -> usize
-    requires { ⌜ (f < 64) × (workSize ≤ length (now work)) ⌝ }
-    ensures { λ r. ⌜ r ≡ cellOf (now (work .entry)) (formAddress f + 1) ⌝ }
+    requires { ⌜ Whole (now work) ⌝ }
+    ensures { λ r. ⌜ (r ≡ length ((formAt (sheetIn (now (work .entry))) f) .keeps)) × (r ≤ 8) ⌝ }
 {
-    number(work, 2320 + 36 * f + 1)
+    if form_count(work) <= f {
+        return 0;
+    }
+    wide(work[2320 + 36 * f + 1])
 }
 
 // The row of kept value j of form f.
-pub fn keep(work: &[u16], f: usize, j: usize) -> usize
+pub fn keep(work: &[u16], f: usize, j: usize) -> u16
+    requires { ⌜ Whole (now work) ⌝ }
+    ensures { λ r. ⌜ r ≡ getD ((formAt (sheetIn (now (work .entry))) f) .keeps) j 0 ⌝ }
+{
+    if form_count(work) <= f {
+        return 0;
+    }
+    if keep_count(work, f) <= j {
+        return 0;
+    }
+    work[2320 + 36 * f + (3 + j)]
+}
+
+// Part j of form f.
+pub fn part(work: &[u16], f: usize, j: usize) -> PartPlace
     requires { ⌜ (f < 64) × (j < 8) × (workSize ≤ length (now work)) ⌝ }
-    ensures { λ r. ⌜ r ≡ cellOf (now (work .entry)) (keepAddress f j) ⌝ }
+    ensures { λ r. ⌜ partTold (now (work .entry)) r ≡ partIn (now (work .entry)) f j ⌝ }
 {
-    number(work, 2320 + 36 * f + (3 + j))
-}
-
-// How many parts form f has.
-pub fn part_count(work: &[u16], f: usize) -> usize
-    requires { ⌜ (f < 64) × (workSize ≤ length (now work)) ⌝ }
-    ensures { λ r. ⌜ r ≡ cellOf (now (work .entry)) (formAddress f + 2) ⌝ }
-{
-    number(work, 2320 + 36 * f + 2)
-}
-
-// The kind of part j of form f: 0 for `init`.
-pub fn part_tag(work: &[u16], f: usize, j: usize) -> usize
-    requires { ⌜ (f < 64) × (j < 8) × (workSize ≤ length (now work)) ⌝ }
-    ensures { λ r. ⌜ r ≡ cellOf (now (work .entry)) (partAddress f j) ⌝ }
-{
-    number(work, 2320 + 36 * f + (11 + 3 * j))
-}
-
-// The kept value of an `init`, or where a body's instructions begin.
-pub fn part_first(work: &[u16], f: usize, j: usize) -> usize
-    requires { ⌜ (f < 64) × (j < 8) × (workSize ≤ length (now work)) ⌝ }
-    ensures { λ r. ⌜ r ≡ cellOf (now (work .entry)) (partAddress f j + 1) ⌝ }
-{
-    number(work, 2320 + 36 * f + (11 + 3 * j) + 1)
-}
-
-// How many instructions a body has.
-pub fn part_second(work: &[u16], f: usize, j: usize) -> usize
-    requires { ⌜ (f < 64) × (j < 8) × (workSize ≤ length (now work)) ⌝ }
-    ensures { λ r. ⌜ r ≡ cellOf (now (work .entry)) (partAddress f j + 2) ⌝ }
-{
-    number(work, 2320 + 36 * f + (11 + 3 * j) + 2)
-}
-
-// The code of instruction p's key.
-pub fn instr_code(work: &[u16], p: usize) -> usize
-    requires { ⌜ (p < 1024) × (workSize ≤ length (now work)) ⌝ }
-    ensures { λ r. ⌜ r ≡ cellOf (now (work .entry)) (instrAddress p) ⌝ }
-{
-    number(work, 4624 + 11 * p)
-}
-
-// How many numbers instruction p has.
-pub fn instr_count(work: &[u16], p: usize) -> usize
-    requires { ⌜ (p < 1024) × (workSize ≤ length (now work)) ⌝ }
-    ensures { λ r. ⌜ r ≡ cellOf (now (work .entry)) (instrAddress p + 1) ⌝ }
-{
-    number(work, 4624 + 11 * p + 1)
-}
-
-// Number k of instruction p.
-pub fn instr_number(work: &[u16], p: usize, k: usize) -> usize
-    requires { ⌜ (p < 1024) × (k < 9) × (workSize ≤ length (now work)) ⌝ }
-    ensures { λ r. ⌜ r ≡ cellOf (now (work .entry)) (instrAddress p + (2 + k)) ⌝ }
-{
-    number(work, 4624 + 11 * p + (2 + k))
+    let at = 2320 + 36 * f + (11 + 3 * j);
+    let first = work[at + 1];
+    if work[at] == 0 {
+        return PartPlace::Init { kept: first };
+    }
+    PartPlace::Body {
+        start: first,
+        count: work[at + 2],
+    }
 }

@@ -5,6 +5,7 @@ ghost use lib.ListN.{set};
 ghost use Rattle.table.specs.View.{cell as cellOf};
 
 pub mod forms;
+pub mod instrs;
 pub mod rows;
 pub mod stores;
 

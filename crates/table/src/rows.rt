@@ -3,7 +3,9 @@ ghost use mathlib.Core.Path.{_≡_};
 ghost use Prim.Native.Nat.{_≤_, _<_, _+_, min};
 ghost use lib.ListN.{length};
 ghost use Rattle.table.specs.Layout.{rowCountAt, rowAddress, fitAddress, workSize};
-ghost use Rattle.table.specs.View.{cell as cellOf, memberIn, rowIn};
+ghost use Rattle.table.specs.View.{cell as cellOf, memberIn, rowIn, sheetIn};
+ghost use Rattle.table.specs.Whole.{Whole};
+ghost use Rattle.sheet_rules.specs.Sheet.{rowAt};
 use sheet_rules::Kind;
 use sheet_rules::Member;
 
@@ -41,6 +43,28 @@ pub fn member_count(work: &[u16], i: usize) -> usize
 {
     let at = 16 + 36 * i + 1;
     wide(work[at])
+}
+
+// How many members row a of the sheet has.
+pub fn members_at(work: &[u16], a: usize) -> usize
+    requires { ⌜ Whole (now work) ⌝ }
+    ensures { λ r. ⌜ (r ≡ length ((rowAt ((sheetIn (now (work .entry))) .rows) a) .members)) × (r ≤ 8) ⌝ }
+{
+    if row_count(work) <= a {
+        return 0;
+    }
+    member_count(work, a)
+}
+
+// The kind of row a of the sheet.
+pub fn kind_at(work: &[u16], a: usize) -> Kind
+    requires { ⌜ Whole (now work) ⌝ }
+    ensures { λ r. ⌜ r ≡ (rowAt ((sheetIn (now (work .entry))) .rows) a) .kind ⌝ }
+{
+    if row_count(work) <= a {
+        return Kind::Pure;
+    }
+    row_kind(work, a)
 }
 
 // Member j of row i.

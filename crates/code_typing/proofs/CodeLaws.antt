@@ -1,0 +1,208 @@
+-- The lines of a body: a law for each turn of their loop. Assumes nothing.
+use Prim.Native.Nat.{ℕ, suc, _+_, _≤_, _<_}
+use native.Mathlib.Omega.{arith}
+use native.Mathlib.Numerals.{add-one}
+use mathlib.Core.Path.{_≡_, refl, sym, ap, ap₂, _∙_, subst}
+use mathlib.Core.Bool.{Bool, true, false}
+use mathlib.Core.List.{List, [], _∷_, _++_}
+use mathlib.Core.Option.{Option, none, some}
+use lib.Dec.{eqb}
+use lib.ListN.{length, getD, set, drop, drop-of-length-le}
+use lib.Seq.{drop-cons, getD-set-same, getD-set-other}
+use borrow.Author.Tests.{eqb-true, eqb-false}
+use Rattle.lists.proofs.TabLaws.{tab-suc, tab-ext, length-tab, getD-tab}
+use Rattle.lists.proofs.Tests.{clash}
+use Rattle.sheet_rules.specs.declared.Reason.{Reason}
+use Rattle.sheet_rules.specs.Sheet.{Instr, copy, Sheet}
+use Rattle.sheet_rules.specs.WellFormed.{WellFormed}
+use Rattle.type_rules.specs.Typing.{Fault, Own, firstOf, instrFault, resultFault, slotRow, instrFaults}
+use Rattle.table.specs.Layout.{fitAddress, slotRowAddress, tableEnd, workSize}
+use Rattle.table.specs.View.{cell, instrIn, instrsIn, sheetIn}
+use Rattle.table.specs.Told.{slotRowsIn}
+use Rattle.table.specs.Whole.{Whole}
+use Rattle.table.proofs.ViewLaws.{SameTable, only→same, only-refl, only-set, only-trans, instrIn-same, sheetIn-same}
+use Rattle.fit.specs.Told.{tells}
+use Rattle.instr_typing.specs.declared.InstrJudged.{InstrJudged}
+use Rattle.instr_typing.specs.Told.{judgedOf}
+use Rattle.code_typing.specs.declared.Walked.{Walked}
+use Rattle.code_typing.specs.Walk.{walk}
+use Rattle.code_typing.specs.Told.{lastFault, lineJudged, stoppedAt, OnlySlots, LinesJudged, codeFaults}
+use Rattle.code_typing.proofs.WalkLaws.{walk-none, walk-good, walk-bad}
+
+-- what a change of slots' rows leaves as it was
+
+module _ (w w′ : List ℕ) (o : OnlySlots w w′) where
+  table-same : SameTable w w′
+  table-same = only→same (slotRowAddress 0) (slotRowAddress 63 + 1) w w′ (omega arith) o
+
+  pub slots-sheet : sheetIn w′ ≡ sheetIn w
+  slots-sheet = sheetIn-same w w′ table-same
+
+  pub slots-instr : (p : ℕ) → instrIn w′ p ≡ instrIn w p
+  slots-instr p = instrIn-same w w′ table-same p
+
+  pub slots-tells : tells w′ ≡ tells w
+  slots-tells = λ x a b. eqb (o .below (fitAddress a b) (omega arith) x) 1
+
+  pub slots-whole : Whole w → Whole w′
+  slots-whole h = record { size = omega (arith, o .size, h .size); sheet = subst WellFormed (sym slots-sheet) (h .sheet) }
+
+-- one slot more
+slots-more : (w w′ : List ℕ) (n r : ℕ) → n < 64 → workSize ≤ length w → w′ ≡ set w (slotRowAddress n) r → slotRowsIn w′ (n + 1) ≡ slotRowsIn w n ++ (r ∷ [])
+slots-more w w′ n r h size e =
+    ap (slotRowsIn w′) (add-one n) ∙ tab-suc (λ v. cell w′ (slotRowAddress v)) n
+    ∙ ap₂ (λ (xs : List ℕ) (x : ℕ). xs ++ (x ∷ []))
+    (tab-ext (λ v. cell w′ (slotRowAddress v)) (λ v. cell w (slotRowAddress v)) n
+    (λ v l. ap (λ (x : List ℕ). cell x (slotRowAddress v)) e ∙ getD-set-other w (slotRowAddress n) (slotRowAddress v) r 0 (λ c. omega arith)))
+    (ap (λ (x : List ℕ). cell x (slotRowAddress n)) e ∙ getD-set-same w (slotRowAddress n) r 0 (omega arith))
+
+-- the declared result is asked on the last line
+result-last : (fit : ℕ → ℕ → Bool) (wanted : Option ℕ) (a : ℕ) (is : List Instr) (last : Bool) → (last ≡ true → is ≡ []) → (last ≡ false → is ≡ [] → ⊥)
+    → lastFault fit wanted a last ≡ resultFault fit wanted a is
+result-last fit none a is true h n = refl
+result-last fit none a is false h n = refl
+result-last fit (some r) a is true h n = ap (resultFault fit (some r) a) (sym (h refl))
+result-last fit (some r) a [] false h n = absurd (n refl refl)
+result-last fit (some r) a (i ∷ is) false h n = refl
+
+module _ (own : Own) (wanted : Option ℕ) (filled start count first : ℕ) (w₀ : List ℕ) where
+  abbrev code : List Instr
+  code = instrsIn w₀ start count
+
+  code-length : length code ≡ count
+  code-length = length-tab (λ k. instrIn w₀ (start + k)) count
+
+  abbrev faults : List ℕ → List Instr → List Fault
+  faults rows is = instrFaults (tells w₀) (sheetIn w₀) own wanted rows is
+
+  -- where the loop stands
+  pub record CodeGoing (w : List ℕ) (j line : ℕ) : Type 0 where
+    pub within : j ≤ count
+    pub only : OnlySlots w₀ w
+    pub lined : line ≡ first + j
+    pub same : walk line (faults (slotRowsIn w (filled + j)) (drop j code)) ≡ walk first (codeFaults w₀ own wanted filled start count)
+
+  pub code-start : CodeGoing w₀ 0 first
+  code-start =
+      record {
+        within = omega arith;
+        only = only-refl (slotRowAddress 0) (slotRowAddress 63 + 1) w₀;
+        lined = omega arith;
+        same =
+            ap (λ (k : ℕ). walk first (instrFaults (tells w₀) (sheetIn w₀) own wanted (slotRowsIn w₀ k) (instrsIn w₀ start count))) none-more;
+      }
+    where
+      none-more : filled + 0 ≡ filled
+      none-more = omega arith
+
+  module _ (w : List ℕ) (j line : ℕ) (g : CodeGoing w j line) where
+    pub code-end : count ≤ j → LinesJudged (codeFaults w₀ own wanted filled start count) first w₀ w (Walked.On line)
+    unfolding instrFaults
+    code-end l =
+        record {
+          told =
+              sym (walk-none line)
+              ∙ sym (ap (λ (is : List Instr). walk line (faults (slotRowsIn w (filled + j)) is)) (drop-of-length-le code past)) ∙ g .same;
+          only = g .only;
+        }
+      where
+        past : length code ≤ j
+        past = omega (arith, code-length)
+
+    module _ (l : j < count) (judged : InstrJudged) (last : Bool) (last-is : last ≡ eqb (j + 1) count)
+        (told : judged ≡ lineJudged w own wanted (filled + j) (instrIn w (start + j)) last) where
+      rows : List ℕ
+      rows = slotRowsIn w (filled + j)
+
+      instr : Instr
+      instr = instrIn w₀ (start + j)
+
+      row : ℕ
+      row = slotRow (sheetIn w₀) own rows instr
+
+      rest : List Instr
+      rest = drop (suc j) code
+
+      fault : Fault
+      fault = firstOf (instrFault (tells w₀) (sheetIn w₀) own rows instr) (resultFault (tells w₀) wanted row rest)
+
+      next-here : drop j code ≡ instr ∷ rest
+      unfolding instr rest
+      next-here =
+          drop-cons code j (copy 0) (omega (arith, code-length))
+          ∙ ap (λ (i : Instr). i ∷ drop (suc j) code) (getD-tab (λ k. instrIn w₀ (start + k)) count j (copy 0) l)
+
+      ends : last ≡ true → rest ≡ []
+      unfolding rest
+      ends e =
+          let k : j + 1 ≡ count = eqb-true (j + 1) count (sym last-is ∙ e) in
+          let p : length code ≤ suc j = omega (arith, code-length) in
+          drop-of-length-le code p
+
+      goes-on : last ≡ false → rest ≡ [] → ⊥
+      unfolding rest
+      goes-on e n =
+          let k : j + 1 ≡ count → ⊥ = eqb-false (j + 1) count (sym last-is ∙ e) in
+          let h : suc j < length code = omega (arith, code-length) in
+          clash (cc-empty (sym n ∙ drop-cons code (suc j) (copy 0) h))
+        where
+          cc-empty : {x : Instr} {xs : List Instr} → [] ≡ x ∷ xs → _≡_ {A = ℕ} 0 1
+          cc-empty e = cc
+
+      -- the rule's judgement of the line, over the buffer at the start
+      judgedWith : (ℕ → ℕ → Bool) → Sheet → Instr → InstrJudged
+      judgedWith fit s i = judgedOf (firstOf (instrFault fit s own rows i) (lastFault fit wanted (slotRow s own rows i) last)) (slotRow s own rows i)
+
+      judged-rule : judged ≡ judgedOf fault row
+      unfolding rows instr row fault judgedWith
+      judged-rule =
+          told
+          ∙ (λ x. judgedWith (slots-tells w₀ w (g .only) x) (slots-sheet w₀ w (g .only) x) (slots-instr w₀ w (g .only) (start + j) x))
+          ∙ ap (λ (f : Fault). judgedOf (firstOf (instrFault (tells w₀) (sheetIn w₀) own rows instr) f) row) (result-last (tells w₀) wanted row rest last ends goes-on)
+
+      walk-here : walk line (fault ∷ faults (rows ++ (row ∷ [])) rest) ≡ walk first (codeFaults w₀ own wanted filled start count)
+      unfolding rows instr row fault rest instrFaults
+      walk-here = sym (ap (λ (is : List Instr). walk line (faults (slotRowsIn w (filled + j)) is)) next-here) ∙ g .same
+
+      pub code-stop : (q : Reason) → judged ≡ InstrJudged.Refused q → (v : Walked) → v ≡ stoppedAt judged line
+          → LinesJudged (codeFaults w₀ own wanted filled start count) first w₀ w v
+      code-stop q e v ev =
+          record {
+            told =
+                ev ∙ ap (λ (x : InstrJudged). stoppedAt x line) e ∙ walk-bad line q (faults (rows ++ (row ∷ [])) rest)
+                ∙ ap (λ (f : Fault). walk line (f ∷ faults (rows ++ (row ∷ [])) rest)) (go fault (sym judged-rule ∙ e)) ∙ walk-here;
+            only = g .only;
+          }
+        where
+          go : (f : Fault) → judgedOf f row ≡ InstrJudged.Refused q → some q ≡ f
+          go none e = clash (cc)
+          go (some r) e = cc
+
+      pub code-next : filled + count ≤ 64 → workSize ≤ length w₀ → (r : ℕ) → judged ≡ InstrJudged.Good r → (w′ : List ℕ) → w′ ≡ set w (slotRowAddress (filled + j)) r → CodeGoing w′ (j + 1) (line + 1)
+      unfolding rest rows
+      code-next few size r e w′ s =
+          record {
+            within = omega arith;
+            only =
+                only-trans (g .only)
+                (subst (OnlySlots w) (sym s) (only-set (slotRowAddress 0) (slotRowAddress 63 + 1) w (slotRowAddress (filled + j)) r (omega arith) (omega arith)));
+            lined = omega (arith, g .lined);
+            same =
+                ap₂ (λ (xs : List ℕ) (k : ℕ). walk (line + 1) (faults xs (drop k code))) rows-then (add-one j)
+                ∙ walk-good line (faults (rows ++ (row ∷ [])) rest)
+                ∙ ap (λ (f : Fault). walk line (f ∷ faults (rows ++ (row ∷ [])) rest)) (no-fault fault (sym judged-rule ∙ e)) ∙ walk-here;
+          }
+        where
+          no-fault : (f : Fault) → judgedOf f row ≡ InstrJudged.Good r → none ≡ f
+          no-fault none e = refl
+          no-fault (some q) e = clash (cc)
+
+          row-is : (f : Fault) → judgedOf f row ≡ InstrJudged.Good r → r ≡ row
+          row-is none e = cc
+          row-is (some q) e = clash (cc)
+
+          rows-then : slotRowsIn w′ (filled + (j + 1)) ≡ rows ++ (row ∷ [])
+          rows-then =
+              (let m : filled + (j + 1) ≡ filled + j + 1 = omega arith in ap (slotRowsIn w′) m)
+              ∙ slots-more w w′ (filled + j) r (omega arith) (omega (arith, g .only .size)) s
+              ∙ ap (λ (x : ℕ). slotRowsIn w (filled + j) ++ (x ∷ [])) (row-is fault (sym judged-rule ∙ e))

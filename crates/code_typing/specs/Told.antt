@@ -1,0 +1,50 @@
+-- What judging a body's lines ensures. Stands on the typing rules, the table's view and the judgement of one instruction.
+use Prim.Native.Nat.{ℕ, _+_, _≤_}
+use mathlib.Core.Path.{_≡_}
+use mathlib.Core.Bool.{Bool, true, false}
+use mathlib.Core.List.{List, []}
+use mathlib.Core.Option.{Option, none}
+use Rattle.sheet_rules.specs.Sheet.{Instr}
+use Rattle.type_rules.specs.Typing.{Fault, firstOf, instrFault, resultFault, slotRow, Own, instrFaults}
+use Rattle.table.specs.Layout.{slotRowAddress}
+use Rattle.table.specs.Only.{Only}
+use Rattle.table.specs.Told.{slotRowsIn}
+use Rattle.table.specs.View.{instrsIn, sheetIn}
+use Rattle.table.specs.Whole.{Whole}
+use Rattle.fit.specs.Told.{tells}
+use Rattle.instr_typing.specs.declared.InstrJudged.{InstrJudged}
+use Rattle.instr_typing.specs.Told.{judgedOf}
+use Rattle.code_typing.specs.declared.Walked.{Walked}
+use Rattle.code_typing.specs.Walk.{walk}
+
+-- the fault of a value of row a on a body's last line
+abbrev pub lastFault : (ℕ → ℕ → Bool) → Option ℕ → ℕ → Bool → Fault
+lastFault fit wanted a true = resultFault fit wanted a []
+lastFault fit wanted a false = none
+
+-- an instruction's line, judged with the declared result if it is the last
+abbrev pub lineJudged : List ℕ → Own → Option ℕ → ℕ → Instr → Bool → InstrJudged
+lineJudged w own wanted filled i last =
+    judgedOf
+    (firstOf (instrFault (tells w) (sheetIn w) own (slotRowsIn w filled) i)
+    (lastFault (tells w) wanted (slotRow (sheetIn w) own (slotRowsIn w filled) i) last))
+    (slotRow (sheetIn w) own (slotRowsIn w filled) i)
+
+-- a refused instruction, with its line
+abbrev pub stoppedAt : InstrJudged → ℕ → Walked
+stoppedAt (InstrJudged.Good row) n = Walked.On n
+stoppedAt (InstrJudged.Refused q) n = Walked.Stopped q n
+
+-- only the rows of slots have changed
+abbrev pub OnlySlots : List ℕ → List ℕ → Type 0
+OnlySlots w w′ = Only (slotRowAddress 0) (slotRowAddress 63 + 1) w w′
+
+-- lines judged by the table's word on fit: the walk is the rule's, and only rows of slots have changed
+pub record LinesJudged (faults : List Fault) (line : ℕ) (w w′ : List ℕ) (r : Walked) : Type 0 where
+  pub told : r ≡ walk line faults
+  pub only : OnlySlots w w′
+
+-- the lines of a body or of main, after so many filled slots
+abbrev pub codeFaults : List ℕ → Own → Option ℕ → (filled start count : ℕ) → List Fault
+codeFaults w own wanted filled start count =
+    instrFaults (tells w) (sheetIn w) own wanted (slotRowsIn w filled) (instrsIn w start count)

@@ -1,0 +1,4 @@
+pub mod SlotsLaws
+pub mod PartLaws
+pub mod PartsLaws
+pub mod HeadLaws

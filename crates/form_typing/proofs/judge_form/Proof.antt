@@ -1,0 +1,106 @@
+use native.Mathlib.Omega.{arith}
+use mathlib.Core.Path.{_∙_}
+use Rattle.table.proofs.SheetLaws.{form-well}
+use Rattle.form_typing.proofs.HeadLaws.{head-stopped, head-next, keeps-stopped, keeps-after, form-judged}
+use borrow.Author.Needs.{needs}
+use Rattle.form_typing.proofs.judge_form.Statement.{statement}
+use Rattle.form_typing.proofs.judge_form.Tie as tie
+use Rattle.form_typing.proofs.judge_form.Reads as reads
+use Rattle.form_typing.proofs.judge_form.Lts as lts
+use Rattle.form_typing.proofs.judge_head.Reads as judge-head-reads
+use Rattle.form_typing.proofs.judge_keeps.Reads as judge-keeps-reads
+use Rattle.form_typing.proofs.judge_parts.Reads as judge-parts-reads
+use Rattle.table.proofs.forms.form_row.Reads as form-row-reads
+use Rattle.table.proofs.rows.wide.Reads as wide-reads
+
+-- src/lib.rt:228:38
+form-row-requires : tie.Need-form-row-requires
+form-row-requires c κs = search needs
+
+-- src/lib.rt:228:33
+wide-requires : tie.Need-wide-requires
+wide-requires c κs = search needs
+
+-- src/lib.rt:228:9
+judge-head-requires : tie.Need-judge-head-requires
+judge-head-requires c κs = search needs
+
+-- src/lib.rt:229:28
+enum-known-head : tie.Need-enum-known-head
+enum-known-head c = search needs
+
+-- src/lib.rt:230:9
+enum-told : tie.Need-enum-told
+enum-told c = search needs
+
+-- src/lib.rt:230:9
+same-length : tie.Need-same-length
+same-length c = search needs
+
+-- src/lib.rt:230:9
+returns : tie.Need-returns
+returns c = head-stopped (c .before .before .before .before .before .before .before .args .work .now) (c .before .before .before .before .before .before .before .args .f) (c .before .before .before .before .before .before .before .args .line) (c .before .before .before .wide .result) (c .before .before .before .wide .ensures ∙ c .before .before .before .before .form-row .ensures) (c .before .before .judge-head .result) (c .before .before .judge-head .ensures) _ _ (c .enum-told .given .1)
+
+-- src/lib.rt:232:9
+judge-keeps-requires : tie.Need-judge-keeps-requires
+judge-keeps-requires c κs = ((c .before .before .before .before .before .before .before .before .before .pre .0), omega (arith, (c .before .before .before .before .before .before .before .before .before .pre .2), head-next (c .before .before .before .before .before .before .before .before .before .args .work .now) (c .before .before .before .before .before .before .before .before .before .args .f) (c .before .before .before .before .before .before .before .before .before .args .line) (c .before .before .before .before .before .wide .result) (c .before .before .before .before .before .wide .ensures ∙ c .before .before .before .before .before .before .form-row .ensures) (c .before .before .before .before .judge-head .result) (c .before .before .before .before .judge-head .ensures) _ (c .before .before .head .given .1)))
+
+-- src/lib.rt:233:28
+enum-known-keeps : tie.Need-enum-known-keeps
+enum-known-keeps c = search needs
+
+-- src/lib.rt:234:9
+enum-told-2 : tie.Need-enum-told-2
+enum-told-2 c = search needs
+
+-- src/lib.rt:234:9
+same-length-2 : tie.Need-same-length-2
+same-length-2 c = search needs
+
+-- src/lib.rt:234:9
+returns-2 : tie.Need-returns-2
+returns-2 c =
+    keeps-stopped (c .before .before .before .before .before .before .before .before .before .before .before .before .args .work .now) (c .before .before .before .before .before .before .before .before .before .before .before .before .args .f) (c .before .before .before .before .before .before .before .before .before .before .before .before .args .line) (c .before .before .before .before .before .before .before .before .wide .result) (c .before .before .before .before .before .before .before .before .wide .ensures ∙ c .before .before .before .before .before .before .before .before .before .form-row .ensures) (c .before .before .before .before .before .before .before .judge-head .result) (c .before .before .before .before .before .before .before .judge-head .ensures) _ (c .before .before .before .before .before .head .given .1) (c .before .before .judge-keeps .result) (c .before .before .judge-keeps .ensures) _ _ (c .enum-told2 .given .1)
+
+-- src/lib.rt:236:5
+judge-parts-requires : tie.Need-judge-parts-requires
+judge-parts-requires c κs = (
+  (c .before .before .before .before .before .before .before .before .before .before .before .before .before .before .pre .0),
+  (c .before .before .before .before .before .before .before .before .before .before .before .before .before .before .pre .1),
+  omega (
+    arith,
+    (c .before .before .before .before .before .before .before .before .before .before .before .before .before .before .pre .2),
+    head-next (c .before .before .before .before .before .before .before .before .before .before .before .before .before .before .args .work .now) (c .before .before .before .before .before .before .before .before .before .before .before .before .before .before .args .f) (c .before .before .before .before .before .before .before .before .before .before .before .before .before .before .args .line) (c .before .before .before .before .before .before .before .before .before .before .wide .result) (c .before .before .before .before .before .before .before .before .before .before .wide .ensures ∙ c .before .before .before .before .before .before .before .before .before .before .before .form-row .ensures) (c .before .before .before .before .before .before .before .before .before .judge-head .result) (c .before .before .before .before .before .before .before .before .before .judge-head .ensures) _ (c .before .before .before .before .before .before .before .head .given .1),
+    keeps-after (c .before .before .before .before .before .before .before .before .before .before .before .before .before .before .args .work .now) (c .before .before .before .before .before .before .before .before .before .before .before .before .before .before .args .f) (c .before .before .before .before .before .before .before .before .before .before .before .before .before .before .args .line) (c .before .before .before .before .before .before .before .before .before .before .wide .result) (c .before .before .before .before .before .before .before .before .before .before .wide .ensures ∙ c .before .before .before .before .before .before .before .before .before .before .before .form-row .ensures) (c .before .before .before .before .before .before .before .before .before .judge-head .result) (c .before .before .before .before .before .before .before .before .before .judge-head .ensures) _ (c .before .before .before .before .before .before .before .head .given .1) (c .before .before .before .before .judge-keeps .result) (c .before .before .before .before .judge-keeps .ensures) _ (c .before .before .keeps .given .1),
+    (form-well (c .before .before .before .before .before .before .before .before .before .before .before .before .before .before .args .work .now) (c .before .before .before .before .before .before .before .before .before .before .before .before .before .before .pre .0) (c .before .before .before .before .before .before .before .before .before .before .before .before .before .before .args .f) (c .before .before .before .before .before .before .before .before .before .before .before .before .before .before .pre .1)) .few,
+  ),
+)
+
+-- src/lib.rt:224:1
+same-length-3 : tie.Need-same-length-3
+same-length-3 c = search needs
+
+-- src/lib.rt:224:1
+returns-3 : tie.Need-returns-3
+returns-3 c =
+    form-judged (c .before .before .before .before .before .before .before .before .before .before .before .before .before .before .before .before .before .args .work .now) (c .before .before .before .before .before .before .before .before .before .before .before .before .before .before .before .before .before .args .f) (c .before .before .before .before .before .before .before .before .before .before .before .before .before .before .before .before .before .args .line) (c .before .before .before .before .before .before .before .before .before .before .before .before .before .wide .result) (c .before .before .before .before .before .before .before .before .before .before .before .before .before .wide .ensures ∙ c .before .before .before .before .before .before .before .before .before .before .before .before .before .before .form-row .ensures) (c .before .before .before .before .before .before .before .before .before .before .before .before .judge-head .result) (c .before .before .before .before .before .before .before .before .before .before .before .before .judge-head .ensures) _ (c .before .before .before .before .before .before .before .before .before .before .head .given .1) (c .before .before .before .before .before .before .before .judge-keeps .result) (c .before .before .before .before .before .before .before .judge-keeps .ensures) _ (c .before .before .before .before .before .keeps .given .1) (c .before .before .judge-parts .last .0) (c .before .before .judge-parts .result) (c .before .before .judge-parts .ensures)
+
+pub judge-form-spec : {M : Type 1} → statement M
+judge-form-spec =
+    tie.close
+    (tie.spec
+    form-row-requires
+    wide-requires
+    judge-head-requires
+    enum-known-head
+    enum-told
+    same-length
+    returns
+    judge-keeps-requires
+    enum-known-keeps
+    enum-told-2
+    same-length-2
+    returns-2
+    judge-parts-requires
+    same-length-3
+    returns-3)

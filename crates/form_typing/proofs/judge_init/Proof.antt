@@ -1,0 +1,43 @@
+use Prim.Native.Nat.{ℕ}
+use mathlib.Core.Path.{ap, _∙_}
+use lib.ListN.{getD}
+use Rattle.sheet_rules.specs.Sheet.{formAt}
+use Rattle.table.specs.View.{sheetIn}
+use Rattle.fit.specs.Told.{tells}
+use Rattle.form_typing.proofs.PartLaws.{init-fits, init-misfit}
+use borrow.Author.Needs.{needs}
+use Rattle.form_typing.proofs.judge_init.Statement.{statement}
+use Rattle.form_typing.proofs.judge_init.Tie as tie
+use Rattle.form_typing.proofs.judge_init.Reads as reads
+use Rattle.form_typing.proofs.judge_init.Lts as lts
+use Rattle.instr_typing.proofs.fits.Reads as fits-reads
+use Rattle.table.proofs.forms.keep.Reads as keep-reads
+use Rattle.table.proofs.rows.wide.Reads as wide-reads
+
+-- src/lib.rt:81:45
+wide-requires : tie.Need-wide-requires
+wide-requires c κs = search needs
+
+-- src/lib.rt:81:9
+keep-requires : tie.Need-keep-requires
+keep-requires c κs = search needs
+
+-- src/lib.rt:82:8
+fits-requires : tie.Need-fits-requires
+fits-requires c κs = search needs
+
+-- src/lib.rt:83:35
+add-t9 : tie.Need-add-t9
+add-t9 c = search needs
+
+-- src/lib.rt:83:9
+returns : tie.Need-returns
+returns c = init-fits (tells (c .before .before .before .before .before .args .work .now)) (getD ((formAt (sheetIn (c .before .before .before .before .before .args .work .now)) (c .before .before .before .before .before .args .f)) .keeps) (c .before .before .before .before .before .args .kept) 0) (c .before .before .before .before .before .args .row) (c .before .before .before .before .before .args .line) (c .before .fits2 .result) (c .before .fits2 .ensures ∙ ap (λ (a : ℕ). tells (c .before .before .before .before .before .args .work .now) a (c .before .before .before .before .before .args .row)) (c .before .before .keep .ensures ∙ ap (λ (k : ℕ). getD ((formAt (sheetIn (c .before .before .before .before .before .args .work .now)) (c .before .before .before .before .before .args .f)) .keeps) k 0) (c .before .before .before .wide .ensures))) (c .if1 .taken)
+
+-- src/lib.rt:77:1
+returns-2 : tie.Need-returns-2
+returns-2 c = init-misfit (tells (c .before .before .before .before .before .args .work .now)) (getD ((formAt (sheetIn (c .before .before .before .before .before .args .work .now)) (c .before .before .before .before .before .args .f)) .keeps) (c .before .before .before .before .before .args .kept) 0) (c .before .before .before .before .before .args .row) (c .before .before .before .before .before .args .line) (c .before .fits2 .result) (c .before .fits2 .ensures ∙ ap (λ (a : ℕ). tells (c .before .before .before .before .before .args .work .now) a (c .before .before .before .before .before .args .row)) (c .before .before .keep .ensures ∙ ap (λ (k : ℕ). getD ((formAt (sheetIn (c .before .before .before .before .before .args .work .now)) (c .before .before .before .before .before .args .f)) .keeps) k 0) (c .before .before .before .wide .ensures))) (c .if1 .left)
+
+pub judge-init-spec : {M : Type 1} → statement M
+judge-init-spec =
+    tie.close (tie.spec wide-requires keep-requires fits-requires add-t9 returns returns-2)

@@ -1,0 +1,238 @@
+// One instruction, judged over the table: the members that it names are there, and its values fit where they go.
+ghost use mathlib.Core.Path.{_≡_};
+ghost use mathlib.Core.List.{[], _∷_};
+ghost use Prim.Native.Nat.{_≤_};
+ghost use lib.ListN.{length, getD};
+ghost use Rattle.sheet_rules.specs.declared.Reason.the-variants.{Misfit};
+ghost use Rattle.sheet_rules.specs.Sheet.{formAt};
+ghost use Rattle.type_rules.specs.Typing.{methodIn, fieldIn, membersAt, ownField, allFit, unless};
+ghost use Rattle.table.specs.Layout.{workSize};
+ghost use Rattle.table.specs.View.{instrIn, sheetIn};
+ghost use Rattle.table.specs.Told.{newSlots, slotRowsIn};
+ghost use Rattle.table.specs.Whole.{Whole};
+ghost use Rattle.fit.specs.Told.{tells};
+ghost use Rattle.instr_typing.specs.Told.{rowFound, methodFound, judgedOf, callJudged, getJudged, putJudged, instrJudged};
+use sheet_rules::Member;
+use sheet_rules::Reason;
+use table::instrs::Instruction;
+use table::rows::wide;
+
+// A row, where there is one: a field's, the own object's, a declared result's.
+pub enum FoundRow {
+    Row { row: u16 },
+    Missing,
+}
+
+// A method, where there is one.
+pub enum FoundMethod {
+    Method { argument: u16, result: u16 },
+    Missing,
+}
+
+// A judged instruction: the row of the slot that it fills, or the refusal.
+pub enum InstrJudged {
+    Good { row: u16 },
+    Refused { reason: Reason },
+}
+
+// A member as method `name`.
+fn method_of(m: Member, name: u16) -> FoundMethod
+    ensures { λ r. ⌜ methodFound r ≡ methodIn (m ∷ []) name ⌝ }
+{
+    match m {
+        Member::Method {
+            name: n,
+            argument,
+            result,
+        } => {
+            if n == name {
+                return FoundMethod::Method { argument, result };
+            }
+            FoundMethod::Missing
+        }
+        Member::Field { .. } => FoundMethod::Missing,
+    }
+}
+
+// Method `name` of row a.
+fn method_in(work: &[u16], a: u16, name: u16) -> FoundMethod
+    requires { ⌜ Whole (now work) ⌝ }
+    ensures { λ r. ⌜ methodFound r ≡ methodIn (membersAt (sheetIn (now (work .entry))) a) name ⌝ }
+{
+    let row = wide(a);
+    let count = table::rows::members_at(work, row);
+    let mut j = 0;
+    while j < count {
+        let found = method_of(table::rows::member(work, row, j), name);
+        let FoundMethod::Missing = found else {
+            return found;
+        };
+        j = j + 1;
+    }
+    FoundMethod::Missing
+}
+
+// A member as field `name`.
+fn field_of(m: Member, name: u16) -> FoundRow
+    ensures { λ r. ⌜ rowFound r ≡ fieldIn (m ∷ []) name ⌝ }
+{
+    match m {
+        Member::Method { .. } => FoundRow::Missing,
+        Member::Field { name: n, row } => {
+            if n == name {
+                return FoundRow::Row { row };
+            }
+            FoundRow::Missing
+        }
+    }
+}
+
+// The row of field `name` of row a.
+fn field_in(work: &[u16], a: u16, name: u16) -> FoundRow
+    requires { ⌜ Whole (now work) ⌝ }
+    ensures { λ r. ⌜ rowFound r ≡ fieldIn (membersAt (sheetIn (now (work .entry))) a) name ⌝ }
+{
+    let row = wide(a);
+    let count = table::rows::members_at(work, row);
+    let mut j = 0;
+    while j < count {
+        let found = field_of(table::rows::member(work, row, j), name);
+        let FoundRow::Missing = found else {
+            return found;
+        };
+        j = j + 1;
+    }
+    FoundRow::Missing
+}
+
+// The row of the own object's field `name`; main has no own object.
+fn own_field(work: &[u16], own: FoundRow, name: u16) -> FoundRow
+    requires { ⌜ Whole (now work) ⌝ }
+    ensures { λ r. ⌜ rowFound r ≡ ownField (sheetIn (now (work .entry))) (rowFound own) name ⌝ }
+{
+    match own {
+        FoundRow::Row { row } => field_in(work, row, name),
+        FoundRow::Missing => FoundRow::Missing,
+    }
+}
+
+// A value of row a fits row b.
+pub fn fits(work: &[u16], a: u16, b: u16) -> bool
+    requires { ⌜ workSize ≤ length (now work) ⌝ }
+    ensures { λ r. ⌜ r ≡ tells (now (work .entry)) a b ⌝ }
+{
+    fit::fits_in(work, wide(a), wide(b))
+}
+
+// A verdict on a value: the row of the slot that it fills, or a misfit.
+fn fitting(good: bool, row: u16) -> InstrJudged
+    ensures { λ r. ⌜ r ≡ judgedOf (unless good Misfit) row ⌝ }
+{
+    if good {
+        return InstrJudged::Good { row };
+    }
+    InstrJudged::Refused {
+        reason: Reason::Misfit,
+    }
+}
+
+// The slots of the `new` at place p fit the rows that its form keeps, one for one.
+fn slots_fit(work: &[u16], filled: usize, p: usize, form: usize) -> bool
+    requires { ⌜ (filled ≤ 64) × Whole (now work) ⌝ }
+    ensures { λ r. ⌜ r ≡ allFit (tells (now (work .entry))) (slotRowsIn (now (work .entry)) filled) (newSlots (now (work .entry)) p) ((formAt (sheetIn (now (work .entry))) form) .keeps) ⌝ }
+{
+    let count = table::instrs::new_slot_count(work, p);
+    if count != table::forms::keep_count(work, form) {
+        return false;
+    }
+    let mut k = 0;
+    while k < count {
+        let v = wide(table::instrs::new_slot(work, p, k));
+        if !fits(
+            work,
+            table::instrs::slot_row(work, filled, v),
+            table::forms::keep(work, form, k),
+        ) {
+            return false;
+        }
+        k = k + 1;
+    }
+    true
+}
+
+// `call`: the object's row has the method, and the argument fits.
+fn judge_call(work: &[u16], filled: usize, object: u16, name: u16, argument: u16) -> InstrJudged
+    requires { ⌜ (filled ≤ 64) × Whole (now work) ⌝ }
+    ensures { λ r. ⌜ r ≡ callJudged (tells (now (work .entry))) (methodIn (membersAt (sheetIn (now (work .entry))) (getD (slotRowsIn (now (work .entry)) filled) object 0)) name) (getD (slotRowsIn (now (work .entry)) filled) argument 0) ⌝ }
+{
+    let row = table::instrs::slot_row(work, filled, wide(object));
+    match method_in(work, row, name) {
+        FoundMethod::Method {
+            argument: wanted,
+            result,
+        } => {
+            let given = table::instrs::slot_row(work, filled, wide(argument));
+            fitting(fits(work, given, wanted), result)
+        }
+        FoundMethod::Missing => InstrJudged::Refused {
+            reason: Reason::NoSuchMember,
+        },
+    }
+}
+
+// `get`: the own object has the field.
+fn judge_get(work: &[u16], own: FoundRow, name: u16) -> InstrJudged
+    requires { ⌜ Whole (now work) ⌝ }
+    ensures { λ r. ⌜ r ≡ getJudged (ownField (sheetIn (now (work .entry))) (rowFound own) name) ⌝ }
+{
+    match own_field(work, own, name) {
+        FoundRow::Row { row } => InstrJudged::Good { row },
+        FoundRow::Missing => InstrJudged::Refused {
+            reason: Reason::NoSuchMember,
+        },
+    }
+}
+
+// `put`: the own object has the field, and the value, of a row, fits it.
+fn judge_put(work: &[u16], own: FoundRow, name: u16, given: u16) -> InstrJudged
+    requires { ⌜ Whole (now work) ⌝ }
+    ensures { λ r. ⌜ r ≡ putJudged (tells (now (work .entry))) (ownField (sheetIn (now (work .entry))) (rowFound own) name) given ⌝ }
+{
+    match own_field(work, own, name) {
+        FoundRow::Row { row } => fitting(fits(work, given, row), row),
+        FoundRow::Missing => InstrJudged::Refused {
+            reason: Reason::NoSuchMember,
+        },
+    }
+}
+
+// The instruction at place p, in a body whose own object has a row, or in main, where so many slots are filled.
+pub fn judge_instr(work: &[u16], own: FoundRow, filled: usize, p: usize) -> InstrJudged
+    requires { ⌜ (filled ≤ 64) × Whole (now work) ⌝ }
+    ensures { λ r. ⌜ r ≡ instrJudged (now (work .entry)) (rowFound own) filled (instrIn (now (work .entry)) p) ⌝ }
+{
+    match table::instrs::instr_at(work, p) {
+        Instruction::New { form } => {
+            let f = wide(form);
+            fitting(
+                slots_fit(work, filled, p, f),
+                table::forms::form_row(work, f),
+            )
+        }
+        Instruction::Call {
+            object,
+            name,
+            argument,
+        } => judge_call(work, filled, object, name, argument),
+        Instruction::Get { name } => judge_get(work, own, name),
+        Instruction::Put { name, value } => judge_put(
+            work,
+            own,
+            name,
+            table::instrs::slot_row(work, filled, wide(value)),
+        ),
+        Instruction::Copy { slot } => InstrJudged::Good {
+            row: table::instrs::slot_row(work, filled, wide(slot)),
+        },
+    }
+}
