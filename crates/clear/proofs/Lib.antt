@@ -1,1 +1,2 @@
 pub mod ClearLaws
+pub mod AnswerLaws

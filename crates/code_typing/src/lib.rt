@@ -9,6 +9,7 @@ ghost use Rattle.code_typing.specs.Told.{lineJudged, stoppedAt, LinesJud
 use instr_typing::FoundRow;
 use instr_typing::InstrJudged;
 use sheet_rules::Reason;
+use table::rows::wide;
 
 // A walk over lines: the line after them, or the first at fault with the reason.
 pub enum Walked {
@@ -64,17 +65,24 @@ pub fn judge_code(
     own: FoundRow,
     wanted: FoundRow,
     filled: usize,
-    start: usize,
+    start: u16,
     count: usize,
     first: u32,
 ) -> Walked
-    requires { ⌜ Whole (now work) × (filled + count ≤ 64) × (start ≤ 65535) × (first ≤ 1000000) ⌝ }
+    requires { ⌜ Whole (now work) × (filled + count ≤ 64) × (first ≤ 1000000) ⌝ }
     ensures { λ r. ⌜ LinesJudged (codeFaults (now (work .entry)) (rowFound own) (rowFound wanted) filled start count) first (now (work .entry)) (now (work .exit)) r ⌝ }
 {
     let mut j = 0;
     let mut line = first;
     while j < count {
-        let judged = judge_line(work, own, wanted, filled + j, start + j, j + 1 == count);
+        let judged = judge_line(
+            work,
+            own,
+            wanted,
+            filled + j,
+            wide(start) + j,
+            j + 1 == count,
+        );
         let InstrJudged::Good { row } = judged else {
             return stopped(judged, line);
         };

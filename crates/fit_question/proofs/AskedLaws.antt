@@ -6,7 +6,7 @@ use mathlib.Core.Bool.{Bool, true, false, cond, _&&_}
 use mathlib.Core.List.{List}
 use lib.Dec.{leb, ltb}
 use lib.ListN.{length}
-use borrow.Author.Tests.{lt-ltb, le-ltb, le-leb, lt-leb}
+use borrow.Author.Tests.{lt-ltb, le-ltb, le-leb}
 use Rattle.lists.proofs.TabLaws.{length-tab}
 use Rattle.sheet_rules.specs.declared.Reason.{Reason}
 use Rattle.sheet_rules.specs.declared.Reason.the-variants.{BufferTooShort, NotDefined}
@@ -21,13 +21,11 @@ use Rattle.table.specs.Layout.{rowCountAt, tableEnd, slotRowAddress, workSize}
 use Rattle.table.specs.View.{cell, rowIn, sheetIn}
 use Rattle.table.specs.Only.{Only}
 use Rattle.table.proofs.ViewLaws.{only-refl, only-trans, only-widen}
-use Rattle.clear.specs.Cleared.{cleared}
-use Rattle.clear.proofs.ClearLaws.{cleared-same}
+use Rattle.clear.specs.Answer.{Answered}
 use Rattle.reader.specs.Reads.{verdictMeans, SheetRead}
 use Rattle.reader.proofs.SheetLaws.{read-means, read-wellFormed}
 use Rattle.fit.specs.Told.{tells, FitFilled}
 use Rattle.fit.proofs.SheetLaws.{sheet-tells}
-use Rattle.fit_question.specs.Asked.{replyIn, workLeft, FitAsked, Answered}
 
 -- over the table
 
@@ -101,21 +99,4 @@ module _ (text : List ℕ) (a b : ℕ) (w w₁ : List ℕ) (v : Verdict) (size :
             (ap (λ (x : Verdict). verdictMeans x (sheetIn w₁)) (sym e) ∙ s .told
             ∙ ap (λ (x : Bool). cond x (meaning text) (unreadable BufferTooShort 0)) (le-leb workSize (length w) size));
         only = only-widen (omega arith) (omega arith) (s .only);
-      }
-
--- the question
-
-module _ (text : List ℕ) (a b : ℕ) (w : List ℕ) where
-  pub asked-short : length w < workSize → FitAsked text a b w w (FitReply.Refused BufferTooShort 0)
-  asked-short h =
-      record {
-        told = sym (ap (λ (x : Bool). cond x (fitReply text a b) (FitReply.Refused BufferTooShort 0)) (lt-leb workSize (length w) h));
-        left = sym (ap (λ (x : Bool). cond x (cleared w) w) (lt-leb workSize (length w) h));
-      }
-
-  pub asked : workSize ≤ length w → (w₁ : List ℕ) (r : FitReply) → Answered (fitReply text a b) w w₁ r → (w′ : List ℕ) → w′ ≡ cleared w₁ → FitAsked text a b w w′ r
-  asked h w₁ r k w′ e =
-      record {
-        told = k .same ∙ sym (ap (λ (x : Bool). cond x (fitReply text a b) (FitReply.Refused BufferTooShort 0)) (le-leb workSize (length w) h));
-        left = e ∙ cleared-same w w₁ h (k .only) ∙ sym (ap (λ (x : Bool). cond x (cleared w) w) (le-leb workSize (length w) h));
       }

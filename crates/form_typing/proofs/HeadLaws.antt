@@ -111,7 +111,8 @@ module _ (s : Sheet) (a : Row) (ks : List ℕ) (first : ℕ) where
                 ∙ ap (λ (b : Bool). walk line (unless b ImpureForm ∷ keepFaults s a (drop (suc j) ks))) (sym e) ∙ at-line;
           }
 
-keep-lines : (s : Sheet) (a : Row) (ks : List ℕ) → length (keepFaults s a ks) ≡ length ks
+-- a line for each kept row
+pub keep-lines : (s : Sheet) (a : Row) (ks : List ℕ) → length (keepFaults s a ks) ≡ length ks
 unfolding keepFaults
 keep-lines s a [] = refl
 keep-lines s a (k ∷ ks) = ap suc (keep-lines s a ks)

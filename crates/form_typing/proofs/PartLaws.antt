@@ -29,9 +29,9 @@ use Rattle.form_typing.specs.Told.{SlotsFilled, PlaceSmall, an-init, a-b
 
 -- a body's lines, after its slots were put in place
 pub body-judged : (f argument result start count line : ℕ) (w : List ℕ) (row : ℕ) → row ≡ (formAt (sheetIn w) f) .row → (w₁ : List ℕ) (filled : ℕ) → SlotsFilled f argument w w₁ filled
-    → (start′ count′ : ℕ) → start′ ≡ start → count′ ≡ count → (w′ : List ℕ) (r : Walked)
-    → LinesJudged (codeFaults w₁ (some row) (some result) filled start′ count′) (line + 1) w₁ w′ r → LinesJudged (bodyFaults w f argument result start count) line w w′ r
-body-judged f argument result start count line w row row-is w₁ filled s start′ count′ es ec w′ r k =
+    → (count′ : ℕ) → count′ ≡ count → (w′ : List ℕ) (r : Walked)
+    → LinesJudged (codeFaults w₁ (some row) (some result) filled start count′) (line + 1) w₁ w′ r → LinesJudged (bodyFaults w f argument result start count) line w w′ r
+body-judged f argument result start count line w row row-is w₁ filled s count′ ec w′ r k =
     record {
       told = k .told ∙ ap (walk (line + 1)) faults ∙ walk-good line _;
       only = only-trans (s .only) (k .only);
@@ -40,12 +40,12 @@ body-judged f argument result start count line w row row-is w₁ filled s start�
     faultsOf : (ℕ → ℕ → Bool) → Sheet → ℕ → List ℕ → List Instr → List Fault
     faultsOf fit x a rows is = instrFaults fit x (some a) (some result) rows is
 
-    instrs : instrsIn w₁ start′ count′ ≡ instrsIn w start count
+    instrs : instrsIn w₁ start count′ ≡ instrsIn w start count
     instrs =
-        ap₂ (instrsIn w₁) es ec
+        ap (instrsIn w₁ start) ec
         ∙ tab-ext (λ i. instrIn w₁ (start + i)) (λ i. instrIn w (start + i)) count (λ i h. slots-instr w w₁ (s .only) (start + i))
 
-    faults : codeFaults w₁ (some row) (some result) filled start′ count′
+    faults : codeFaults w₁ (some row) (some result) filled start count′
         ≡ instrFaults (tells w) (sheetIn w) (some ((formAt (sheetIn w) f) .row)) (some result) (bodyRows (formAt (sheetIn w) f) argument) (instrsIn w start count)
     faults = λ x. faultsOf (slots-tells w w₁ (s .only) x) (slots-sheet w w₁ (s .only) x) (row-is x) (s .rows x) (instrs x)
 

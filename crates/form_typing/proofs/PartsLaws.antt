@@ -8,12 +8,14 @@ use mathlib.Core.List.{List, [], _∷_, _++_}
 use mathlib.Core.Option.{Option, some}
 use lib.ListN.{length, getD, drop, drop-of-length-le, length-append}
 use lib.Seq.{drop-cons}
+use Rattle.lists.specs.Pairwise.{Pairwise, none, pair}
 use Rattle.lists.proofs.PairwiseLaws.{pairwise-at}
 use Rattle.lists.proofs.TabLaws.{length-tab}
 use Rattle.sheet_rules.specs.declared.Member.{Member}
 use Rattle.sheet_rules.specs.declared.Member.the-variants.{Method, Field}
 use Rattle.sheet_rules.specs.declared.Reason.{Reason}
 use Rattle.sheet_rules.specs.Sheet.{Instr, Part, init, body, Form, Sheet, noMember, formAt}
+use Rattle.sheet_rules.specs.WellFormed.{PartOf, WellFormedBody}
 use Rattle.type_rules.specs.Typing.{Fault, Own, membersAt, bodyRows, slotRow, instrFaults, partFaults, partsFaults}
 use Rattle.table.specs.Layout.{slotRowAddress}
 use Rattle.table.specs.View.{instrIn, instrsIn, memberIn, partIn, sheetIn}
@@ -44,6 +46,21 @@ part-lines w f (Method n a r) (PartPlace.Body start count) (a-body h) =
     omega (arith, instr-lines (tells w) (sheetIn w) (some ((formAt (sheetIn w) f) .row)) (some r) (bodyRows (formAt (sheetIn w) f) a) (instrsIn w start count), length-tab (λ i. instrIn w (start + i)) count)
 part-lines w f (Field n r) (PartPlace.Init k) s = omega arith
 part-lines w f (Field n r) (PartPlace.Body start count) s = omega arith
+
+-- and so all parts have at most 33 for each member
+pub parts-lines : (fit : ℕ → ℕ → Bool) (s : Sheet) (a : Form) {forms keeps : ℕ} (ms : List Member) (ps : List Part) → Pairwise (PartOf forms keeps) ms ps
+    → length (partsFaults fit s a ms ps) ≤ 33 * length ms
+unfolding partsFaults
+parts-lines fit s a [] [] none = omega arith
+parts-lines fit s a (m ∷ ms) (p ∷ ps) (pair o rest) =
+    let i = parts-lines fit s a ms ps rest in
+    let j = one m p o in
+    let k : length (partFaults fit s a m p ++ partsFaults fit s a ms ps) ≡ length (partFaults fit s a m p) + length (partsFaults fit s a ms ps) = length-append (partFaults fit s a m p) (partsFaults fit s a ms ps) in
+    omega arith
+  where
+    one : {forms keeps : ℕ} (x : Member) (y : Part) → PartOf forms keeps x y → length (partFaults fit s a x y) ≤ 33
+    one (Field n r) (init k) (PartOf.field h) = omega arith
+    one (Method n b r) (body is) (PartOf.method h) = omega (arith, h .few, instr-lines fit s (some (a .row)) (some r) (bodyRows a b) is)
 
 module _ (f first : ℕ) (w₀ : List ℕ) where
   abbrev form : Form

@@ -67,7 +67,7 @@ fn judge_body(
         FoundRow::Row { row: own },
         FoundRow::Row { row: result },
         filled,
-        wide(start),
+        start,
         wide(count),
         line + 1,
     )

@@ -1,10 +1,16 @@
 -- What the library's answers are in numbers, as a caller in C has them (document 01, Turned away). Stands on the answers.
-use Rattle.sheet_rules.specs.Answers.{numberOf}
+use Rattle.sheet_rules.specs.declared.Verdict.{Verdict}
+use Rattle.sheet_rules.specs.Answers.{numberOf, verdictNumber, verdictLine}
 use Rattle.type_rules.specs.declared.FitReply.{FitReply}
 use Rattle.lexondar.specs.declared.FitResult.{FitResult}
+use Rattle.lexondar.specs.declared.VerdictResult.{VerdictResult}
 
 -- the fit question: refusal number or 0, its line or 0, and 1 for yes
 abbrev pub fitResult : FitReply → FitResult
 fitResult FitReply.Fits = record { refusal = 0; line = 0; fits = 1 }
 fitResult FitReply.FitsNot = record { refusal = 0; line = 0; fits = 0 }
 fitResult (FitReply.Refused r n) = record { refusal = numberOf r; line = n; fits = 0 }
+
+-- the verdict: the paper's number and line, 0 and 0 when accepted
+abbrev pub verdictResult : Verdict → VerdictResult
+verdictResult v = record { refusal = verdictNumber v; line = verdictLine v }

@@ -1,10 +1,15 @@
 // The library that a terminal links: the questions with their answers in numbers, under plain names.
 ghost use mathlib.Core.Path.{_≡_};
-ghost use lib.ListN.{length};
 ghost use Rattle.sheet_rules.specs.Answers.{numberOf};
-ghost use Rattle.fit_question.specs.Asked.{replyIn, workLeft};
-ghost use Rattle.lexondar.specs.Boundary.{fitResult};
+ghost use Rattle.sheet_rules.specs.declared.Reason.the-variants.{BufferTooShort};
+ghost use Rattle.type_rules.specs.declared.FitReply.{FitReply as FitAnswered};
+ghost use Rattle.type_rules.specs.FitQuestion.{fitReply};
+ghost use Rattle.type_rules.specs.Typing.{verdict};
+ghost use Rattle.sheet_rules.specs.declared.Verdict.{Verdict as VerdictGiven};
+ghost use Rattle.clear.specs.Answer.{Asked};
+ghost use Rattle.lexondar.specs.Boundary.{fitResult, verdictResult};
 use sheet_rules::Reason;
+use sheet_rules::Verdict;
 use type_rules::FitReply;
 
 // The answer of the fit question.
@@ -13,6 +18,13 @@ pub struct FitResult {
     pub refusal: u32,
     pub line: u32,
     pub fits: u32,
+}
+
+// The verdict on a sheet: 0 and 0, or a refusal's number and line.
+#[repr(C)]
+pub struct VerdictResult {
+    pub refusal: u32,
+    pub line: u32,
 }
 
 // The number of a refusal.
@@ -60,7 +72,31 @@ fn fit_result(reply: FitReply) -> FitResult
 // Whether row a of a text's sheet fits row b.
 #[no_mangle]
 pub extern "C" fn lexondar_fit(text: &[u8], a: usize, b: usize, work: &mut [u16]) -> FitResult
-    ensures { λ r. ⌜ (r ≡ fitResult (replyIn (length (now (work .entry))) (now (text .entry)) a b)) × (now (work .exit) ≡ workLeft (now (work .entry))) ⌝ }
+    ensures { λ r. ⌜ Asked (fitResult (fitReply (now (text .entry)) a b)) (fitResult (FitAnswered.Refused BufferTooShort 0)) (now (work .entry)) (now (work .exit)) r ⌝ }
 {
     fit_result(fit_question::ask_fit(text, a, b, work))
+}
+
+// A verdict in numbers.
+fn verdict_result(given: Verdict) -> VerdictResult
+    ensures { λ r. ⌜ r ≡ verdictResult given ⌝ }
+{
+    match given {
+        Verdict::Accepted => VerdictResult {
+            refusal: 0,
+            line: 0,
+        },
+        Verdict::Refused { reason, line } => VerdictResult {
+            refusal: number_of(reason),
+            line,
+        },
+    }
+}
+
+// The verdict on a text's sheet.
+#[no_mangle]
+pub extern "C" fn lexondar_verdict(text: &[u8], work: &mut [u16]) -> VerdictResult
+    ensures { λ r. ⌜ Asked (verdictResult (verdict (now (text .entry)))) (verdictResult (VerdictGiven.Refused BufferTooShort 0)) (now (work .entry)) (now (work .exit)) r ⌝ }
+{
+    verdict_result(verdict::ask_verdict(text, work))
 }

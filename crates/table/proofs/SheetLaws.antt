@@ -12,8 +12,8 @@ use Rattle.lists.proofs.TabLaws.{length-tab, getD-tab}
 use Rattle.sheet_rules.specs.Limits.{keepLimit}
 use Rattle.sheet_rules.specs.Sheet.{Row, Part, init, Form, noRow, noMember, noForm, rowAt, formAt}
 use Rattle.sheet_rules.specs.WellFormed.{WellFormedRow, PartOf, WellFormedForm}
-use Rattle.table.specs.Layout.{rowCountAt, formCountAt, rowAddress, formAddress, keepAddress}
-use Rattle.table.specs.View.{cell, memberIn, rowIn, rowsIn, partIn, partsIn, keepsIn, formIn, sheetIn}
+use Rattle.table.specs.Layout.{rowCountAt, formCountAt, mainStartAt, mainCountAt, rowAddress, formAddress, keepAddress}
+use Rattle.table.specs.View.{cell, memberIn, rowIn, rowsIn, instrIn, instrsIn, partIn, partsIn, keepsIn, formIn, sheetIn}
 use Rattle.table.specs.Ready.{Ready}
 use Rattle.table.specs.Whole.{Whole}
 use Rattle.table.proofs.RowLaws.{rows-length, rows-ready, members-length, members-getD}
@@ -122,3 +122,16 @@ module _ (w : List ℕ) where
     part-there j k =
         let n : length ((formAt (sheetIn w) f) .parts) ≡ cell w (formAddress f + 2) = ap length (parts-are f l) ∙ length-tab (partIn w f) (cell w (formAddress f + 2)) in
         ap (λ (ps : List Part). getD ps j (init 0)) (parts-are f l) ∙ getD-tab (partIn w f) (cell w (formAddress f + 2)) j (init 0) (omega arith)
+
+  -- main
+
+  pub main-is : instrsIn w (cell w mainStartAt) (cell w mainCountAt) ≡ (sheetIn w) .main
+  unfolding sheetIn
+  main-is = λ x. instrsIn w (cell w mainStartAt) (cell w mainCountAt)
+
+  pub main-few : Whole w → cell w mainCountAt ≤ 32
+  main-few h =
+      let a = h .sheet .main .few in
+      let b : length (instrsIn w (cell w mainStartAt) (cell w mainCountAt)) ≡ length ((sheetIn w) .main) = ap length main-is in
+      let c = length-tab (λ k. instrIn w (cell w mainStartAt + k)) (cell w mainCountAt) in
+      omega arith

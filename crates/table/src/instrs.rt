@@ -2,9 +2,10 @@
 ghost use mathlib.Core.Path.{_≡_};
 ghost use Prim.Native.Nat.{_≤_, _<_, min};
 ghost use lib.ListN.{length, getD, set};
-ghost use Rattle.table.specs.Layout.{slotRowAddress, workSize};
+ghost use Rattle.table.specs.Layout.{mainStartAt, mainCountAt, slotRowAddress, workSize};
 ghost use Rattle.table.specs.Told.{newSlots, instrTold, slotRowsIn};
 ghost use Rattle.table.specs.View.{cell as cellOf, instrIn};
+ghost use Rattle.table.specs.Whole.{Whole};
 use crate::rows::wide;
 
 // One instruction. The slots of a `new` are read by number.
@@ -59,6 +60,22 @@ pub fn instr_at(work: &[u16], p: usize) -> Instruction
         },
         _ => Instruction::Copy { slot: work[at + 2] },
     }
+}
+
+// Where main's instructions begin.
+pub fn main_start(work: &[u16]) -> u16
+    requires { ⌜ workSize ≤ length (now work) ⌝ }
+    ensures { λ r. ⌜ r ≡ cellOf (now (work .entry)) mainStartAt ⌝ }
+{
+    work[2]
+}
+
+// How many instructions main has.
+pub fn main_count(work: &[u16]) -> usize
+    requires { ⌜ Whole (now work) ⌝ }
+    ensures { λ r. ⌜ (r ≡ cellOf (now (work .entry)) mainCountAt) × (r ≤ 32) ⌝ }
+{
+    wide(work[3])
 }
 
 // How many slots the `new` at place p of the pool names.

@@ -19,13 +19,9 @@ form-row-requires c κs = search needs
 put-slots-requires : tie.Need-put-slots-requires
 put-slots-requires c κs = search needs
 
--- src/lib.rt:70:9
+-- src/lib.rt:71:9
 wide-requires : tie.Need-wide-requires
 wide-requires c κs = search needs
-
--- src/lib.rt:71:9
-wide-requires-2 : tie.Need-wide-requires-2
-wide-requires-2 c κs = search needs
 
 -- src/lib.rt:72:9
 add-judge-code : tie.Need-add-judge-code
@@ -34,10 +30,9 @@ add-judge-code c = search needs
 -- src/lib.rt:65:5
 judge-code-requires : tie.Need-judge-code-requires
 judge-code-requires c κs = (
-  slots-whole (c .before .before .before .before .before .before .before .before .before .before .args .work .now) (c .before .before .before .before .before .put-slots .last .0) (c .before .before .before .before .before .put-slots .ensures .only) (c .before .before .before .before .before .before .before .before .before .before .pre .0),
-  omega (arith, c .before .before .before .before .before .put-slots .ensures .few, c .wide2 .ensures, (c .before .before .before .before .before .before .before .before .before .before .pre .1)),
-  omega (arith, c .before .wide .ensures, c .before .before .before .before .before .before .before .before .before .before .fits .start),
-  omega (arith, (c .before .before .before .before .before .before .before .before .before .before .pre .2)),
+  slots-whole (c .before .before .before .before .before .before .before .before .before .args .work .now) (c .before .before .before .before .put-slots .last .0) (c .before .before .before .before .put-slots .ensures .only) (c .before .before .before .before .before .before .before .before .before .pre .0),
+  omega (arith, c .before .before .before .before .put-slots .ensures .few, c .wide .ensures, (c .before .before .before .before .before .before .before .before .before .pre .1)),
+  omega (arith, (c .before .before .before .before .before .before .before .before .before .pre .2)),
 )
 
 -- src/lib.rt:51:1
@@ -47,7 +42,7 @@ same-length c = search needs
 -- src/lib.rt:51:1
 returns : tie.Need-returns
 returns c =
-    body-judged (c .before .before .before .before .before .before .before .before .before .before .before .before .before .args .f) (c .before .before .before .before .before .before .before .before .before .before .before .before .before .args .argument) (c .before .before .before .before .before .before .before .before .before .before .before .before .before .args .result) (c .before .before .before .before .before .before .before .before .before .before .before .before .before .args .start) (c .before .before .before .before .before .before .before .before .before .before .before .before .before .args .count) (c .before .before .before .before .before .before .before .before .before .before .before .before .before .args .line) (c .before .before .before .before .before .before .before .before .before .before .before .before .before .args .work .now) (c .before .before .before .before .before .before .before .before .before .before .form-row .result) (c .before .before .before .before .before .before .before .before .before .before .form-row .ensures) (c .before .before .before .before .before .before .before .before .put-slots .last .0) (c .before .before .before .before .before .before .before .before .put-slots .result) (c .before .before .before .before .before .before .before .before .put-slots .ensures) (c .before .before .before .before .wide .result) (c .before .before .before .wide2 .result) (c .before .before .before .before .wide .ensures) (c .before .before .before .wide2 .ensures) (c .before .before .judge-code .last .0) (c .before .before .judge-code .result) (c .before .before .judge-code .ensures)
+    body-judged (c .before .before .before .before .before .before .before .before .before .before .before .before .args .f) (c .before .before .before .before .before .before .before .before .before .before .before .before .args .argument) (c .before .before .before .before .before .before .before .before .before .before .before .before .args .result) (c .before .before .before .before .before .before .before .before .before .before .before .before .args .start) (c .before .before .before .before .before .before .before .before .before .before .before .before .args .count) (c .before .before .before .before .before .before .before .before .before .before .before .before .args .line) (c .before .before .before .before .before .before .before .before .before .before .before .before .args .work .now) (c .before .before .before .before .before .before .before .before .before .form-row .result) (c .before .before .before .before .before .before .before .before .before .form-row .ensures) (c .before .before .before .before .before .before .before .put-slots .last .0) (c .before .before .before .before .before .before .before .put-slots .result) (c .before .before .before .before .before .before .before .put-slots .ensures) (c .before .before .before .wide .result) (c .before .before .before .wide .ensures) (c .before .before .judge-code .last .0) (c .before .before .judge-code .result) (c .before .before .judge-code .ensures)
 
 pub judge-body-spec : {M : Type 1} → statement M
 judge-body-spec =
@@ -56,7 +51,6 @@ judge-body-spec =
     form-row-requires
     put-slots-requires
     wide-requires
-    wide-requires-2
     add-judge-code
     judge-code-requires
     same-length

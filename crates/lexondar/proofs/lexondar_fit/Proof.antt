@@ -1,4 +1,7 @@
-use mathlib.Core.Path.{ap, _∙_}
+use Rattle.sheet_rules.specs.declared.Reason.the-variants.{BufferTooShort}
+use Rattle.type_rules.specs.declared.FitReply.{FitReply}
+use Rattle.type_rules.specs.FitQuestion.{fitReply}
+use Rattle.clear.proofs.AnswerLaws.{asked-as}
 use Rattle.lexondar.specs.Boundary.{fitResult}
 use borrow.Author.Needs.{needs}
 use Rattle.lexondar.proofs.lexondar_fit.Statement.{statement}
@@ -8,21 +11,21 @@ use Rattle.lexondar.proofs.lexondar_fit.Lts as lts
 use Rattle.fit_question.proofs.ask_fit.Reads as ask-fit-reads
 use Rattle.lexondar.proofs.fit_result.Reads as fit-result-reads
 
--- src/lib.rt:65:16
+-- src/lib.rt:77:16
 ask-fit-requires : tie.Need-ask-fit-requires
 ask-fit-requires c κs = search needs
 
--- src/lib.rt:65:5
+-- src/lib.rt:77:5
 fit-result-requires : tie.Need-fit-result-requires
 fit-result-requires c κs = search needs
 
--- src/lib.rt:61:1
+-- src/lib.rt:73:1
 same-length : tie.Need-same-length
 same-length c = search needs
 
--- src/lib.rt:61:1
+-- src/lib.rt:73:1
 returns : tie.Need-returns
-returns c = (c .fit-result .ensures ∙ ap fitResult (c .before .before .before .ask-fit .ensures .told), c .before .before .before .ask-fit .ensures .left)
+returns c = asked-as fitResult (fitReply (c .before .before .before .before .before .before .before .args .text .now) (c .before .before .before .before .before .before .before .args .a) (c .before .before .before .before .before .before .before .args .b)) (FitReply.Refused BufferTooShort 0) (c .before .before .before .before .before .before .before .args .work .now) (c .before .before .before .ask-fit .last .1 .1 .1 .0) (c .before .before .before .ask-fit .result) (c .fit-result .result) (c .before .before .before .ask-fit .ensures) (c .fit-result .ensures)
 
 pub lexondar-fit-spec : {M : Type 1} → statement M
 lexondar-fit-spec = tie.close (tie.spec ask-fit-requires fit-result-requires same-length returns)

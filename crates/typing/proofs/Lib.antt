@@ -1,0 +1,2 @@
+pub mod FormsLaws
+pub mod SheetLaws

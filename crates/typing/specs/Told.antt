@@ -1,0 +1,28 @@
+-- What judging a sheet over the table ensures. Stands on the typing rules, the table's view and the judgement of a form's lines.
+use Prim.Native.Nat.{ℕ, _+_, _≤_}
+use mathlib.Core.Path.{_≡_}
+use mathlib.Core.List.{List, _∷_}
+use mathlib.Core.Option.{none}
+use Rattle.sheet_rules.specs.declared.Verdict.{Verdict}
+use Rattle.type_rules.specs.Typing.{Fault, formsFaults, instrFaults, mainRows, lineFaults, firstFormLine, firstFault}
+use Rattle.table.specs.View.{sheetIn}
+use Rattle.fit.specs.Told.{tells}
+use Rattle.code_typing.specs.declared.Walked.{Walked}
+use Rattle.code_typing.specs.Told.{OnlySlots, LinesJudged}
+
+-- the lines of all forms, and of main, by the table's word on fit
+abbrev pub formsFaultsIn : List ℕ → List Fault
+formsFaultsIn w = formsFaults (tells w) (sheetIn w) ((sheetIn w) .forms)
+
+abbrev pub mainFaultsIn : List ℕ → List Fault
+mainFaultsIn w = none ∷ instrFaults (tells w) (sheetIn w) none none (mainRows (sheetIn w)) ((sheetIn w) .main)
+
+-- the forms' lines, judged; they are not so many that their numbers would not fit
+pub record FormsJudged (first : ℕ) (w w′ : List ℕ) (r : Walked) : Type 0 where
+  pub lines : LinesJudged (formsFaultsIn w) first w w′ r
+  pub few : (n : ℕ) → r ≡ Walked.On n → n ≤ first + 17472
+
+-- the verdict on the sheet in the table is the rule's, by the table's word on fit, and only rows of slots have changed
+pub record SheetJudged (w w′ : List ℕ) (v : Verdict) : Type 0 where
+  pub told : v ≡ firstFault (firstFormLine (sheetIn w)) (lineFaults (tells w) (sheetIn w))
+  pub only : OnlySlots w w′
