@@ -13,6 +13,14 @@ pub struct FitResult {
     pub fits: u32,
 }
 
+/// A verdict: a refusal's number or 0, and its line or 0.
+#[repr(C)]
+#[derive(Clone, Copy, Debug, PartialEq, Eq)]
+pub struct VerdictResult {
+    pub refusal: u32,
+    pub line: u32,
+}
+
 extern "C" {
     fn lexondar_fit(
         text: *const u8,
@@ -22,6 +30,12 @@ extern "C" {
         work: *mut u16,
         work_len: usize,
     ) -> FitResult;
+    fn lexondar_verdict(
+        text: *const u8,
+        text_len: usize,
+        work: *mut u16,
+        work_len: usize,
+    ) -> VerdictResult;
 }
 
 /// Whether row a of the text's sheet fits row b.
@@ -38,4 +52,10 @@ pub fn fit(text: &[u8], a: usize, b: usize, work: &mut [u16]) -> FitResult {
             work.len(),
         )
     }
+}
+
+/// The verdict on the text's sheet.
+pub fn verdict(text: &[u8], work: &mut [u16]) -> VerdictResult {
+    // SAFETY: as above.
+    unsafe { lexondar_verdict(text.as_ptr(), text.len(), work.as_mut_ptr(), work.len()) }
 }

@@ -1,19 +1,10 @@
 //! The reading pass and the fit question against the second program.
 
-use boundary::{fit, FitResult, WORK};
-use second::Refusal;
+mod common;
 
-/// Numbers for a buffer at entry, which must have no influence.
-fn noise(seed: u64, length: usize) -> Vec<u16> {
-    let mut state = seed | 1;
-    let mut next = || {
-        state ^= state << 13;
-        state ^= state >> 7;
-        state ^= state << 17;
-        state as u16
-    };
-    (0..length).map(|_| next()).collect()
-}
+use boundary::{fit, FitResult, WORK};
+use common::{is_left_clean, noise};
+use second::Refusal;
 
 fn wanted(answer: Result<bool, Refusal>) -> FitResult {
     match answer {
@@ -35,8 +26,7 @@ fn compare(text: &[u8], a: u32, b: u32, entry: &[u16], name: &str) -> FitResult 
     let mut work = entry.to_vec();
     let answer = fit(text, a as usize, b as usize, &mut work);
     assert_eq!(answer, wanted(second::fit(text, a, b)), "{name}");
-    assert!(work[..WORK].iter().all(|n| *n == 0), "{name}: dirty");
-    assert_eq!(work[WORK..], entry[WORK..], "{name}: later numbers");
+    is_left_clean(&work, entry, name);
     answer
 }
 
@@ -62,12 +52,15 @@ fn all_pairs_of_rows_agree_on_300_sheets() {
         let Ok(sheet) = second::read(&text) else {
             continue;
         };
-        let rows = sheet.rows.len() as u32;
-        let entry = noise(index + 1, WORK);
+        let rows = sheet.rows.len() as u16;
+        let table = second::fit::FitTable::of(&sheet.rows);
+        let mut work = noise(index + 1, WORK);
         for a in 0..rows {
             for b in 0..rows {
+                let answer = fit(&text, a.into(), b.into(), &mut work);
                 let name = format!("sheet {index}, rows {a} and {b}");
-                match compare(&text, a, b, &entry, &name).fits {
+                assert_eq!(answer, wanted(Ok(table.fits(a, b))), "{name}");
+                match answer.fits {
                     0 => no += 1,
                     _ => yes += 1,
                 }

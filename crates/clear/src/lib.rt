@@ -1,4 +1,4 @@
-// Clearing the work buffer, before a sheet is read into it.
+// Clearing the work buffer, as every question does before it returns.
 ghost use mathlib.Core.Path.{_≡_};
 ghost use Prim.Native.Nat.{_≤_};
 ghost use lib.ListN.{length};

@@ -61,7 +61,7 @@ cases =
     ∷ gives (P-with 20 "call=2,2") 3 20
     ∷ gives (P-with 19 "new=2,0,0,0,0,0,0,0,0,0") 3 19
     ∷ gives (P-with 19 "new=2,0,0,0,0,0,0,0,0") 0 0
-    -- limits: K, members, names in a member and in a call, kept values, instructions of a body
+    -- limits: K, members, names in a member and in a call, forms, kept values, instructions of a body
     ∷ gives (P-with 2 "type=2,0") 4 2
     ∷ gives (P-with 2 "type=0,9") 4 2
     ∷ gives (P-with 4 "def=64,0,0") 4 4
@@ -69,6 +69,7 @@ cases =
     ∷ gives (P-with 20 "call=2,64,0") 4 20
     ∷ gives (P-with 20 "get=64") 4 20
     ∷ gives (P-with 20 "put=64,0") 4 20
+    ∷ gives (P-with 7 "forms=65") 4 7
     ∷ gives (P-with 8 "form=0,9") 4 8
     ∷ gives (P-with 10 "body=0") 4 10
     ∷ gives (P-with 16 "main=33") 4 16
@@ -95,8 +96,8 @@ pub all : map (λ c. numbers (meaning (c .text))) cases ≡ map (λ c. c .wanted
 unfolding reading
 all = refl
 
--- a text over 65,535 bytes is refused unread
-pub too-long : numbers (meaning (replicate 70000 10)) ≡ 2 ∷ 0 ∷ []
+-- a text of 65,535 bytes is read, one over that is refused unread
+pub too-long : map (λ n. numbers (meaning (replicate n 10))) (65535 ∷ 65536 ∷ []) ≡ (3 ∷ 1 ∷ []) ∷ (2 ∷ 0 ∷ []) ∷ []
 unfolding reading
 too-long = refl
 
