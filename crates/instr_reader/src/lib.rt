@@ -45,7 +45,7 @@ fn store_instr(work: &mut [u16], p: usize, key: Key, numbers: Numbers)
     ensures { λ r. ⌜ StoredInstr p (instrFrom (codeOf key) (numbers .count) (nineOf numbers)) (now (work .entry)) (now (work .exit)) ⌝ }
 {
     let facts = judges::key_facts(key);
-    let at = 4624 + 11 * p;
+    let at = table::instrs::instr_address(p);
     store_head(work, at, facts.code as u16, numbers);
     store_tail(work, at, numbers);
 }

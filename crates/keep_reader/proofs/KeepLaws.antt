@@ -11,7 +11,6 @@ use Rattle.sheet_rules.specs.Lines.{linesOf}
 use Rattle.sheet_rules.specs.Reader.{got, one, existingLine}
 use Rattle.table.specs.Layout.{keepAddress, workSize}
 use Rattle.table.proofs.ViewLaws.{only-refl, only-set}
-use Rattle.table.proofs.FormLaws.{keep-address}
 use Rattle.line_reader.specs.declared.NumberLine.{NumberLine}
 use Rattle.line_reader.specs.declared.Progress.{Progress}
 use Rattle.line_reader.specs.Told.{numberRead, Onward, Advanced}
@@ -20,9 +19,9 @@ use Rattle.keep_reader.specs.Reads.{KeepRead}
 -- by what the line's reader gave
 module _ (text : List ℕ) (f j rows at n : ℕ) (w : List ℕ) (p : NumberLine)
     (told : numberRead text p ≡ one (existingLine Key.Keep rows) (linesOf (drop at text)) n) where
-  pub keep-read : f < 64 → j < 8 → workSize ≤ length w → (v at′ n′ : ℕ) → p ≡ NumberLine.Number v at′ n′ → Onward text at n p
-      → (w′ : List ℕ) → w′ ≡ set w (2320 + 36 * f + (3 + j)) v → KeepRead text f j rows at n w w′ (Progress.Moved at′ n′)
-  keep-read hf hj size v at′ n′ e o w′ s =
+  pub keep-read : workSize ≤ length w → (v at′ n′ : ℕ) → p ≡ NumberLine.Number v at′ n′ → Onward text at n p
+      → (w′ : List ℕ) → w′ ≡ set w (keepAddress f j) v → KeepRead text f j rows at n w w′ (Progress.Moved at′ n′)
+  keep-read size v at′ n′ e o w′ stored =
       subst (λ (x : List ℕ). KeepRead text f j rows at n w x (Progress.Moved at′ n′)) (sym stored)
       (record {
         told =
@@ -32,9 +31,6 @@ module _ (text : List ℕ) (f j rows at n : ℕ) (w : List ℕ) (p : NumberLine)
         advanced = onward v at′ n′ (subst (Onward text at n) e o);
       })
     where
-      stored : w′ ≡ set w (keepAddress f j) v
-      stored = s ∙ ap (λ (a : ℕ). set w a v) (keep-address f j hf hj)
-
       onward : (x a l : ℕ) → Onward text at n (NumberLine.Number x a l) → Advanced text at (Progress.Moved a l)
       onward x a l (Onward.moved h r) = let k : at ≤ a = omega arith in Advanced.moved k r
 

@@ -27,7 +27,7 @@ fn read_keep(
             at: next,
             line: n,
         } => {
-            table::put(work, 2320 + 36 * f + (3 + j), value);
+            table::stores::put_keep(work, f, j, value);
             Progress::Moved { at: next, line: n }
         }
         NumberLine::Refused { reason, line: n } => Progress::Refused { reason, line: n },

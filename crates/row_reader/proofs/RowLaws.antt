@@ -23,6 +23,7 @@ use Rattle.judges.proofs.JudgeLaws.{demand-no, demand-yes}
 use Rattle.table.specs.Layout.{rowAddress, workSize}
 use Rattle.table.specs.View.{cell, membersIn, rowIn, rowsIn}
 use Rattle.table.specs.Only.{Only}
+use Rattle.table.specs.Stores.{rowHeadPut}
 use Rattle.table.proofs.ViewLaws.{only-refl, only-set, only-trans, only-widen, row-other}
 use Rattle.line_reader.specs.declared.PairLine.{PairLine}
 use Rattle.line_reader.specs.declared.Progress.{Progress}
@@ -36,7 +37,7 @@ rowOf kind members = record { kind = kindOf kind; members = members }
 
 -- a row's heading, stored
 abbrev pub headed : List ℕ → ℕ → ℕ → ℕ → List ℕ
-headed w i kind count = set (set w (rowAddress i) kind) (rowAddress i + 1) count
+headed = rowHeadPut
 
 module _ (w : List ℕ) (i kind count : ℕ) (size : workSize ≤ length w) where
   kind-stored : cell (headed w i kind count) (rowAddress i) ≡ kind

@@ -113,9 +113,7 @@ fn keep_row(
     requires { ⌜ Room (now text) at (line + 1) × (i < 64) × (count ≤ 8) × (workSize ≤ length (now work)) ⌝ }
     ensures { λ r. ⌜ RowKept (now (text .entry)) i kind count at line (now (work .entry)) (now (work .exit)) r ⌝ }
 {
-    let base = 16 + 36 * i;
-    table::put(work, base, kind);
-    table::put(work, base + 1, count);
+    table::stores::put_row_head(work, i, kind, count);
     let members = table::rows::wide(count);
     if row_store::lone_twin(work, i, members) {
         return Progress::Refused {

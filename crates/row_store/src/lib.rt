@@ -99,7 +99,7 @@ pub fn store_member(work: &mut [u16], i: usize, j: usize, key: Key, numbers: Num
     requires { ⌜ (i < 64) × (j < 8) × (workSize ≤ length (now work)) × MemberShaped key numbers ⌝ }
     ensures { λ r. ⌜ Stored i j (memberOf key (listOf numbers)) (now (work .entry)) (now (work .exit)) ⌝ }
 {
-    let at = 16 + 36 * i + (4 + 4 * j);
+    let at = table::rows::member_address(i, j);
     let tag = member_tag(key);
     table::put(work, at, tag);
     table::put(work, at + 1, numbers.n0);

@@ -2,7 +2,11 @@
 use Prim.Native.Nat.{ℕ, _+_}
 use mathlib.Core.List.{List}
 use lib.ListN.{set}
-use Rattle.table.specs.Layout.{rowCountAt, mainCountAt, formAddress, partAddress}
+use Rattle.table.specs.Layout.{rowCountAt, mainCountAt, rowAddress, formAddress, partAddress}
+
+-- a row's kind, and how many members it has
+abbrev pub rowHeadPut : List ℕ → ℕ → ℕ → ℕ → List ℕ
+rowHeadPut w i kind members = set (set w (rowAddress i) kind) (rowAddress i + 1) members
 
 -- three numbers from a place on
 unfoldable pub threePut : List ℕ → ℕ → ℕ → ℕ → ℕ → List ℕ

@@ -2,7 +2,7 @@
 ghost use mathlib.Core.Path.{_≡_};
 ghost use Prim.Native.Nat.{_≤_, _<_, min};
 ghost use lib.ListN.{length, getD, set};
-ghost use Rattle.table.specs.Layout.{mainStartAt, mainCountAt, slotRowAddress, workSize};
+ghost use Rattle.table.specs.Layout.{mainStartAt, mainCountAt, instrAddress, slotRowAddress, workSize};
 ghost use Rattle.table.specs.Told.{newSlots, instrTold, slotRowsIn};
 ghost use Rattle.table.specs.View.{cell as cellOf, instrIn};
 ghost use Rattle.table.specs.Whole.{Whole};
@@ -38,6 +38,14 @@ fn within_pool(p: usize) -> usize
         return p;
     }
     1023
+}
+
+// Where the instruction at place p of the pool stands.
+pub fn instr_address(p: usize) -> usize
+    requires { ⌜ p < 1024 ⌝ }
+    ensures { λ r. ⌜ (r ≡ instrAddress p) × (r ≤ 15877) ⌝ }
+{
+    4624 + 11 * p
 }
 
 // The instruction at place p of the pool.

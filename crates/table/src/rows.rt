@@ -2,7 +2,7 @@
 ghost use mathlib.Core.Path.{_≡_};
 ghost use Prim.Native.Nat.{_≤_, _<_, _+_, min};
 ghost use lib.ListN.{length};
-ghost use Rattle.table.specs.Layout.{rowCountAt, rowAddress, fitAddress, workSize};
+ghost use Rattle.table.specs.Layout.{rowCountAt, rowAddress, memberAddress, fitAddress, workSize};
 ghost use Rattle.table.specs.View.{cell as cellOf, memberIn, rowIn, sheetIn};
 ghost use Rattle.table.specs.Whole.{Whole};
 ghost use Rattle.sheet_rules.specs.Sheet.{rowAt};
@@ -100,4 +100,12 @@ pub fn fit_address(a: usize, b: usize) -> usize
     ensures { λ r. ⌜ r ≡ fitAddress a b ⌝ }
 {
     15888 + (64 * within_rows(a) + within_rows(b))
+}
+
+// Where member j of row i stands.
+pub fn member_address(i: usize, j: usize) -> usize
+    requires { ⌜ (i < 64) × (j < 8) ⌝ }
+    ensures { λ r. ⌜ (r ≡ memberAddress i j) × (r ≤ 2316) ⌝ }
+{
+    16 + 36 * i + (4 + 4 * j)
 }
