@@ -64,15 +64,17 @@ fn main() {
         fit,
         second_fit,
     );
-    let full = sheets::at_every_limit();
-    let read = row(
-        "reading alone, every limit",
-        &sheets::torn(&full),
-        verdict,
-        second_verdict,
-    );
-    let judged = row("verdict, every limit", &full, verdict, second_verdict);
+    let judge = |name: &str, sheet: &str| {
+        assert!(second::verdict(sheet.as_bytes()).is_ok(), "{name}");
+        let torn = sheets::torn(sheet);
+        let read = row(&format!("reading, {name}"), &torn, verdict, second_verdict);
+        let whole = row(&format!("verdict, {name}"), sheet, verdict, second_verdict);
+        whole / read
+    };
+    let full = judge("every limit", &sheets::at_every_limit());
+    let slow = judge("slowest", &sheets::slowest());
     println!();
     println!("fit of 8 methods to fit of 1 method: {:.2}", large / small);
-    println!("verdict to reading alone: {:.2}", judged / read);
+    println!("verdict to reading, every limit: {full:.2}");
+    println!("verdict to reading, slowest: {slow:.2}");
 }

@@ -36,7 +36,19 @@ pub fn at_every_limit() -> String {
     text + "main=32\n" + &"new=0\n".repeat(32)
 }
 
-/// The same with its last line torn: it is read to the end, and not judged.
+/// As slow to judge as a sheet can be: 64 rows of 8 methods, and as many
+/// instructions as there may be, each second a `new` of eight slots.
+pub fn slowest() -> String {
+    let mut text = rows(8) + "forms=64\nform=0,0\n";
+    for row in 1..64 {
+        text += &format!("form={row},8\n");
+        text += &"keep=0\n".repeat(8);
+        text += &"body=2\nnew=63,1,1,1,1,1,1,1,1\ncopy=1\n".repeat(8);
+    }
+    text + "main=16\n" + &"new=0\n".repeat(16)
+}
+
+/// A sheet with its last line torn: it is read to the end, and not judged.
 pub fn torn(sheet: &str) -> String {
     String::from(sheet.trim_end())
 }

@@ -1,3 +1,4 @@
+pub mod LayoutLaws
 pub mod ViewLaws
 pub mod RowLaws
 pub mod FormLaws

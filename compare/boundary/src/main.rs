@@ -1,0 +1,45 @@
+//! A small program over the library: a sheet on standard input, the answer to
+//! one question on standard output, in the second program's words.
+
+use boundary::{fit, verdict, WORK};
+use std::io::Read;
+use std::process::ExitCode;
+
+const USAGE: &str = "usage: boundary verdict | boundary fit A B  (a sheet on standard input)";
+
+fn main() -> ExitCode {
+    let words: Vec<String> = std::env::args().skip(1).collect();
+    let words: Vec<&str> = words.iter().map(String::as_str).collect();
+    let mut text = Vec::new();
+    if std::io::stdin().read_to_end(&mut text).is_err() {
+        eprintln!("boundary: standard input can't be read");
+        return ExitCode::FAILURE;
+    }
+    match answer(&words, &text) {
+        Some(lines) => print!("{lines}"),
+        None => {
+            eprintln!("{USAGE}");
+            return ExitCode::from(2);
+        }
+    }
+    ExitCode::SUCCESS
+}
+
+fn answer(words: &[&str], text: &[u8]) -> Option<String> {
+    let mut work = vec![0; WORK];
+    let refused = |number: u32, line: u32| format!("verdict={number}\nline={line}\n");
+    match words {
+        ["verdict"] => {
+            let given = verdict(text, &mut work);
+            Some(refused(given.refusal, given.line))
+        }
+        ["fit", a, b] => {
+            let given = fit(text, a.parse().ok()?, b.parse().ok()?, &mut work);
+            Some(match given.refusal {
+                0 => format!("fit={}\n", given.fits),
+                number => refused(number, given.line),
+            })
+        }
+        _ => None,
+    }
+}
