@@ -8,6 +8,7 @@ use lib.Dec.{eqb}
 use lib.ListN.{length, drop}
 use lib.Seq.{getD-set-same, getD-set-other}
 use Rattle.lists.proofs.TabLaws.{tab-ext}
+use Rattle.lists.proofs.Tests.{clash}
 use Rattle.sheet_rules.specs.declared.Key.{Key}
 use Rattle.sheet_rules.specs.declared.Reason.{Reason}
 use Rattle.sheet_rules.specs.declared.Reason.the-variants.{Malformed}
@@ -23,7 +24,7 @@ use Rattle.sheet_rules.proofs.FormLinesLaws.{bodyLine-room}
 use Rattle.table.specs.Layout.{rowCountAt, formCountAt, mainStartAt, mainCountAt, rowAddress, formAddress, partAddress, instrAddress, tableEnd, workSize}
 use Rattle.table.specs.View.{cell, rowIn, rowsIn, instrIn, instrsIn, formIn, formsIn, sheetIn}
 use Rattle.table.specs.Only.{Only}
-use Rattle.table.specs.Pool.{OnlyFrom, FormEnds}
+use Rattle.table.specs.Pool.{OnlyFrom, FormEnds, Placed}
 use Rattle.table.specs.Ready.{Ready}
 use Rattle.table.specs.Stores.{threePut, countsPut}
 use Rattle.table.proofs.ViewLaws.{SameFrom, only-refl, only-trans, only-widen, only-set, row-same, instr-same, part-same, form-same}
@@ -82,6 +83,13 @@ module _ (w w₁ : List ℕ) (o : Only 0 4 w w₁) where
       same : cell w₁ (formAddress f + 2) ≡ cell w (formAddress f + 2)
       same = o .above (formAddress f + 2) (omega arith)
 
+-- a refusal is no acceptance
+pub not-accepted : (q : Reason) (l : ℕ) (v : Verdict) → v ≡ Verdict.Refused q l → {A : Type 0} → v ≡ Verdict.Accepted → A
+not-accepted q l v e c = go (sym e ∙ c)
+  where
+    go : {A : Type 0} → Verdict.Refused q l ≡ Verdict.Accepted → A
+    go x = clash (cc)
+
 -- the rest of a sheet, refused
 pub rest-refused : (text : List ℕ) (at n : ℕ) (q : Reason) (l : ℕ) (s : Sheet) (x : Read Sheet) (v : Verdict) → v ≡ Verdict.Refused q l → x ≡ refused q l → verdictMeans v s ≡ conclude x
 rest-refused text at n q l s x v ev ex = ap (λ (y : Verdict). verdictMeans y s) ev ∙ sym (ap conclude ex)
@@ -98,6 +106,7 @@ module _ (text : List ℕ) (rows forms used at n : ℕ) (w : List ℕ) (ready : 
       record {
         told = rest-refused text at n q l (sheetIn w) _ v ev (number-stop text _ (instrsRest (rowsIn w rows) forms (formsIn w forms)) p told-here q l e);
         only = only-refl 0 tableEnd w;
+        placed = not-accepted q l v ev;
       }
 
   module _ (i at′ n′ : ℕ) (e : p ≡ NumberLine.Number i at′ n′) where
@@ -138,6 +147,7 @@ module _ (text : List ℕ) (rows forms used at n : ℕ) (w : List ℕ) (ready : 
                 rest-refused text at n q l (sheetIn w′) _ v ev
                 (told-main ∙ moved-stop text _ (endRest (rowsIn w rows) (formsIn w forms)) r (instrsIn w′ used i) (m .told) q l c);
             only = main-only;
+            placed = not-accepted q l v ev;
           }
 
       -- the sheet that the table holds
@@ -163,6 +173,21 @@ module _ (text : List ℕ) (rows forms used at n : ℕ) (w : List ℕ) (ready : 
                 ((cell-kept mainCountAt (omega arith) ∙ count-3 w rows forms used i (ready .size)) x);
           }
 
+      all-placed : Placed w′
+      all-placed =
+          record {
+            forms = λ f h.
+                form-ends-kept (instrAddress 0) used w₁ w′ pool-from (by .few) f 1024 (by .few) (omega (arith, count))
+                (counts-ends w w₁ head-only f used (by .ends f (omega (arith, count))));
+            main =
+                (let a = cell-kept mainStartAt (omega arith) ∙ count-2 w rows forms used i (ready .size) in
+                let b = cell-kept mainCountAt (omega arith) ∙ count-3 w rows forms used i (ready .size) in
+                omega (arith, room-for .whole));
+          }
+        where
+          count : cell w′ formCountAt ≡ forms
+          count = cell-kept formCountAt (omega arith) ∙ count-1 w rows forms used i (ready .size)
+
       module _ (at″ n″ : ℕ) (moved : r ≡ Progress.Moved at″ n″) where
         told-end : mainRest (rowsIn w rows) forms (formsIn w forms) (linesOf (drop at text)) n ≡ endRest (rowsIn w rows) (formsIn w forms) (instrsIn w′ used i) (linesOf (drop at″ text)) n″
         told-end = told-main ∙ moved-then text _ (endRest (rowsIn w rows) (formsIn w forms)) r (instrsIn w′ used i) (m .told) at″ n″ moved
@@ -176,6 +201,7 @@ module _ (text : List ℕ) (rows forms used at n : ℕ) (w : List ℕ) (ready : 
                   (told-end
                   ∙ then-stop _ (λ end. give (record { rows = rowsIn w rows; forms = formsIn w forms; main = instrsIn w′ used i })) Malformed n″ (sym (not-at-end text at″ n″ h)));
               only = main-only;
+              placed = not-accepted Malformed n″ (Verdict.Refused Malformed n″) refl;
             }
 
         pub main-read : length text ≤ at″ → RestRead text (mainRest (rowsIn w rows) forms (formsIn w forms)) at n w w′ Verdict.Accepted
@@ -188,4 +214,5 @@ module _ (text : List ℕ) (rows forms used at n : ℕ) (w : List ℕ) (ready : 
                   (told-end
                   ∙ ap (λ x. andThen x (λ end. give (record { rows = rowsIn w rows; forms = formsIn w forms; main = instrsIn w′ used i }))) (at-end text at″ n″ h)));
               only = main-only;
+              placed = λ e. all-placed;
             }

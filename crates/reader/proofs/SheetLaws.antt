@@ -40,7 +40,7 @@ use Rattle.part_reader.specs.declared.PoolProgress.{PoolProgress}
 use Rattle.part_reader.specs.Reads.{plain}
 use Rattle.form_reader.specs.Reads.{FormsUsed, FormsRead}
 use Rattle.reader.specs.Reads.{verdictMeans, endRest, instrsRest, mainRest, formsRest, rowsRest, RestRead, SheetRead}
-use Rattle.reader.proofs.MainLaws.{rest-refused}
+use Rattle.reader.proofs.MainLaws.{not-accepted, rest-refused}
 
 -- FORMS AND MAIN
 
@@ -50,7 +50,7 @@ module _ (text : List ℕ) (rows at n : ℕ) (w : List ℕ) (ready : Ready rows 
       → RestRead text (rowsRest (rowsIn w rows)) at n w w v
   unfolding rowsRest
   forms-line-refused q l e v ev =
-      record { told = rest-refused text at n q l (sheetIn w) _ v ev (number-stop text _ (formsRest (rowsIn w rows)) p told q l e); only = only-refl 0 tableEnd w }
+      record { told = rest-refused text at n q l (sheetIn w) _ v ev (number-stop text _ (formsRest (rowsIn w rows)) p told q l e); only = only-refl 0 tableEnd w; placed = not-accepted q l v ev }
 
   module _ (f at′ n′ : ℕ) (e : p ≡ NumberLine.Number f at′ n′) where
     pub forms-few : f ≤ 64
@@ -75,6 +75,7 @@ module _ (text : List ℕ) (rows at n : ℕ) (w : List ℕ) (ready : Ready rows 
                 rest-refused text at n q l (sheetIn w₁) _ v ev
                 (told-forms ∙ moved-stop text _ (mainRest (rowsIn w rows) f) (plain r) (formsIn w₁ f) (m .read .told) q l (ap plain c));
             only = forms-only;
+            placed = not-accepted q l v ev;
           }
 
       pub forms-ready : Ready rows w₁
@@ -103,6 +104,7 @@ module _ (text : List ℕ) (rows at n : ℕ) (w : List ℕ) (ready : Ready rows 
                   ∙ ap (λ (rs : List Row). conclude (mainRest rs f (formsIn w₁ f) (linesOf (drop at″ text)) n″)) rows-same
                   ∙ sym (ap conclude (told-forms ∙ moved-then text _ (mainRest (rowsIn w rows) f) (plain r) (formsIn w₁ f) (m .read .told) at″ n″ (ap plain moved)));
               only = only-trans forms-only (k .only);
+              placed = k .placed;
             }
 
 -- A WHOLE SHEET
@@ -121,6 +123,7 @@ module _ (text : List ℕ) (w : List ℕ) (size : workSize ≤ length w)
             rest-refused text 0 1 q l (sheetIn w) _ v ev
             (sheet-rest (linesOf (drop 0 text)) 1 ∙ number-stop text _ (λ t ls n. andThen (many t readRow [] ls n) rowsRest) p told q l e);
         only = only-refl 0 tableEnd w;
+        placed = not-accepted q l v ev;
       }
 
   module _ (t at′ n′ : ℕ) (e : p ≡ NumberLine.Number t at′ n′) where
@@ -144,6 +147,7 @@ module _ (text : List ℕ) (w : List ℕ) (size : workSize ≤ length w)
           record {
             told = rest-refused text 0 1 q l (sheetIn w₁) _ v ev (told-rows ∙ moved-stop text _ rowsRest r (rowsIn w₁ t) (m .told) q l c);
             only = rows-only;
+            placed = not-accepted q l v ev;
           }
 
       module _ (at″ n″ : ℕ) (moved : r ≡ Progress.Moved at″ n″) where
@@ -167,6 +171,7 @@ module _ (text : List ℕ) (w : List ℕ) (size : workSize ≤ length w)
             record {
               told = k .told ∙ sym (ap conclude (told-rows ∙ moved-then text _ rowsRest r (rowsIn w₁ t) (m .told) at″ n″ moved));
               only = only-trans rows-only (k .only);
+              placed = k .placed;
             }
 
 -- THE PROMISE
@@ -181,6 +186,7 @@ module _ (text w : List ℕ) where
         told = sym (ap (λ (b : Bool). cond b (meaning text) (unreadable BufferTooShort 0)) (lt-leb workSize (length w) h));
         only = only-refl 0 tableEnd w;
         short = λ e. refl;
+        placed = not-accepted BufferTooShort 0 (Verdict.Refused BufferTooShort 0) refl;
       }
 
   module _ (h : workSize ≤ length w) where
@@ -196,6 +202,7 @@ module _ (text w : List ℕ) where
               ∙ sym (ap (λ (b : Bool). cond b (meaning text) (unreadable BufferTooShort 0)) whole);
           only = only-refl 0 tableEnd w;
           short = λ e. refl;
+          placed = not-accepted TextTooLong 0 (Verdict.Refused TextTooLong 0) refl;
         }
 
     pub sheet-read : length text ≤ 65535 → (w′ : List ℕ) (v : Verdict) → RestRead text readSheet 0 1 w w′ v → SheetRead text w w′ v
@@ -208,6 +215,7 @@ module _ (text w : List ℕ) where
               ∙ sym (ap (λ (b : Bool). cond b (meaning text) (unreadable BufferTooShort 0)) whole);
           only = k .only;
           short = λ e. (let b = sym e ∙ whole in clash (cc));
+          placed = k .placed;
         }
 
 -- what the crates above have of a sheet that was read

@@ -17,6 +17,7 @@ use Rattle.sheet_rules.specs.Reading.{Meaning, readable, unreadable, readEnd, c
 use Rattle.table.specs.Layout.{tableEnd, workSize}
 use Rattle.table.specs.View.{sheetIn}
 use Rattle.table.specs.Only.{Only}
+use Rattle.table.specs.Pool.{Placed}
 use Rattle.line_reader.specs.declared.NumberLine.{NumberLine}
 use Rattle.line_reader.specs.declared.Progress.{Progress}
 use Rattle.part_reader.specs.declared.PoolProgress.{PoolProgress}
@@ -59,14 +60,16 @@ rowsRest rows = one (countLine Key.Forms 0 formLimit) >>= formsRest rows
 pub record RestRead (text : List ℕ) (rest : Reader Sheet) (at n : ℕ) (w w′ : List ℕ) (v : Verdict) : Type 0 where
   pub told : verdictMeans v (sheetIn w′) ≡ conclude (rest (linesOf (drop at text)) n)
   pub only : Only 0 tableEnd w w′
+  pub placed : v ≡ Verdict.Accepted → Placed w′
 
 -- what a text means to a caller whose work buffer has so many numbers: 1 comes first (document 01, Turned away)
 abbrev pub meaningIn : ℕ → List ℕ → Meaning
 meaningIn size text = cond (leb workSize size) (meaning text) (unreadable BufferTooShort 0)
 
 -- the reader's promise: the verdict, and the sheet that the table then holds, are what the text means; nothing after the table
--- has changed, and nothing at all in a buffer that is too short
+-- has changed, and nothing at all in a buffer that is too short; an accepted sheet's instructions stand in the pool
 pub record SheetRead (text : List ℕ) (w w′ : List ℕ) (v : Verdict) : Type 0 where
   pub told : verdictMeans v (sheetIn w′) ≡ meaningIn (length w) text
   pub only : Only 0 tableEnd w w′
   pub short : leb workSize (length w) ≡ false → w′ ≡ w
+  pub placed : v ≡ Verdict.Accepted → Placed w′

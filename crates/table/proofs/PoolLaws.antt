@@ -5,11 +5,11 @@ use mathlib.Core.Path.{_≡_, refl, sym, ap, _∙_, subst}
 use mathlib.Core.Bool.{Bool, false, cond}
 use mathlib.Core.List.{List}
 use lib.Dec.{eqb}
-use Rattle.table.specs.Layout.{rowAddress, formAddress, partAddress, instrAddress, tableEnd}
+use Rattle.table.specs.Layout.{formCountAt, mainStartAt, mainCountAt, rowAddress, formAddress, partAddress, instrAddress, tableEnd}
 use Rattle.table.specs.View.{cell, instrIn, partIn, formIn, rowIn}
 use Rattle.table.specs.Only.{Only}
-use Rattle.table.specs.Pool.{OnlyFrom, partEnd, PartsEnd, FormEnds}
-use Rattle.table.proofs.ViewLaws.{instr-same, part-same, form-same, row-same}
+use Rattle.table.specs.Pool.{OnlyFrom, partEnd, PartsEnd, FormEnds, Placed}
+use Rattle.table.proofs.ViewLaws.{SameTable, instr-same, part-same, form-same, row-same}
 
 -- OnlyFrom: reflexive, composes while the pool grows, and follows from Only
 
@@ -75,3 +75,23 @@ module _ (lo p : ℕ) (w w′ : List ℕ) (o : OnlyFrom lo p w w′) (few : p �
     where
       count : cell w′ (formAddress f + 2) ≡ cell w (formAddress f + 2)
       count = o .below (formAddress f + 2) (omega arith)
+
+-- what stands in the pool depends on the table alone
+pub placed-same : (w w′ : List ℕ) → SameTable w w′ → Placed w → Placed w′
+placed-same w w′ h p =
+    record {
+      forms = forms;
+      main = (let a = h mainStartAt (omega arith) in let b = h mainCountAt (omega arith) in let c = p .main in omega arith);
+    }
+  where
+    forms : (f : ℕ) → f < cell w′ formCountAt → FormEnds w′ f 1024
+    forms f l =
+        let e = p .forms f (let a = h formCountAt (omega arith) in omega arith) in
+        let n : cell w′ (formAddress f + 2) ≡ cell w (formAddress f + 2) = h (formAddress f + 2) (omega arith) in
+        record {
+          few = omega (arith, e .few);
+          ends = λ j k.
+              subst (λ (x : ℕ). x ≤ 1024)
+              (sym (λ x. cond (eqb (h (partAddress f j) (omega arith) x) 0) 0 (h (partAddress f j + 1) (omega arith) x + h (partAddress f j + 2) (omega arith) x)))
+              (e .ends j (omega arith));
+        }

@@ -5,7 +5,7 @@ use mathlib.Core.Bool.{cond}
 use mathlib.Core.List.{List}
 use lib.Dec.{eqb}
 use lib.ListN.{length}
-use Rattle.table.specs.Layout.{formAddress, partAddress, instrAddress, poolAddress, tableEnd}
+use Rattle.table.specs.Layout.{formCountAt, mainStartAt, mainCountAt, formAddress, partAddress, instrAddress, poolAddress, tableEnd}
 use Rattle.table.specs.View.{cell}
 
 -- w′ is as long as w, and has the same numbers below lo, in the pool's first p instructions, and after the table
@@ -27,3 +27,8 @@ PartsEnd w f n p = (j : ℕ) → j < n → partEnd w f j ≤ p
 pub record FormEnds (w : List ℕ) (f p : ℕ) : Type 0 where
   pub few : cell w (formAddress f + 2) ≤ 8
   pub ends : PartsEnd w f (cell w (formAddress f + 2)) p
+
+-- all instructions that forms and main name stand in the pool
+pub record Placed (w : List ℕ) : Type 0 where
+  pub forms : (f : ℕ) → f < cell w formCountAt → FormEnds w f 1024
+  pub main : cell w mainStartAt + cell w mainCountAt ≤ 1024

@@ -6,7 +6,6 @@ use mathlib.Core.Bool.{Bool, cond}
 use mathlib.Core.List.{List}
 use lib.ListN.{length}
 use borrow.Author.Tests.{le-leb}
-use Rattle.lists.proofs.Tests.{clash}
 use Rattle.sheet_rules.specs.declared.Reason.{Reason}
 use Rattle.sheet_rules.specs.declared.Reason.the-variants.{BufferTooShort}
 use Rattle.sheet_rules.specs.declared.Verdict.{Verdict}
@@ -21,9 +20,11 @@ use Rattle.table.specs.View.{cell, rowsIn, sheetIn}
 use Rattle.table.specs.Only.{Only}
 use Rattle.table.specs.Ready.{Ready}
 use Rattle.table.specs.Whole.{Whole}
-use Rattle.table.proofs.ViewLaws.{only-trans, only-widen}
+use Rattle.table.proofs.ViewLaws.{SameTable, only-trans, only-widen}
+use Rattle.table.proofs.PoolLaws.{placed-same}
 use Rattle.table.proofs.RowLaws.{rows-length}
 use Rattle.reader.specs.Reads.{verdictMeans, SheetRead}
+use Rattle.reader.proofs.MainLaws.{not-accepted}
 use Rattle.reader.proofs.SheetLaws.{read-means, read-wellFormed}
 use Rattle.fit.specs.Told.{tells, FitFilled}
 use Rattle.fit.proofs.SheetLaws.{sheet-ready, sheet-lower, filled-sheet, sheet-tells}
@@ -50,11 +51,9 @@ module _ (text w w₁ : List ℕ) (v : Verdict) (size : workSize ≤ length w) (
                   ∙ ap (λ (x : Bool). cond x (meaning text) (unreadable BufferTooShort 0)) (le-leb workSize (length w) size));
               only = read-only;
             };
-        sheet = λ c. no-way (sym e ∙ c);
+        sheet = not-accepted q l v e;
+        placed = not-accepted q l v e;
       }
-    where
-      no-way : {A : Type 0} → Verdict.Refused q l ≡ Verdict.Accepted → A
-      no-way c = clash (cc)
 
   module _ (e : v ≡ Verdict.Accepted) where
     accepted : SheetRead text w w₁ Verdict.Accepted
@@ -107,4 +106,8 @@ module _ (text w w₁ : List ℕ) (v : Verdict) (size : workSize ≤ length w) (
                       (only-widen (omega arith) (omega arith) (k .only));
                 };
             sheet = λ c. means ∙ sym (ap readable (slots-sheet w₂ w′ (k .only) ∙ same-sheet));
+            placed = λ c. placed-same w₁ w′ table-same (s .placed e);
           }
+        where
+          table-same : SameTable w₁ w′
+          table-same i h = k .only .below i (omega arith) ∙ f .only .below i h

@@ -7,12 +7,15 @@ use Rattle.sheet_rules.specs.declared.Verdict.{Verdict}
 use Rattle.sheet_rules.specs.Reading.{readable, meaning}
 use Rattle.type_rules.specs.Typing.{verdict}
 use Rattle.table.specs.View.{sheetIn}
+use Rattle.table.specs.Pool.{Placed}
 use Rattle.clear.specs.Answer.{Answered, Asked}
 
--- a text judged in a buffer that is long enough: the rule's verdict, and where it accepts, the table holds the text's sheet
+-- a text judged in a buffer that is long enough: the rule's verdict, and where it accepts, the table holds the text's sheet, with
+-- all its instructions in the pool
 pub record TextJudged (text w w′ : List ℕ) (v : Verdict) : Type 0 where
   pub answered : Answered (verdict text) w w′ v
   pub sheet : v ≡ Verdict.Accepted → meaning text ≡ readable (sheetIn w′)
+  pub placed : v ≡ Verdict.Accepted → Placed w′
 
 -- the promise: the rule's verdict, and the work buffer left as the paper says (document 01, Turned away)
 abbrev pub VerdictAsked : (text w w′ : List ℕ) → Verdict → Type 0
