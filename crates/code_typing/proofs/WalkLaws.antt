@@ -2,13 +2,14 @@
 use Prim.Native.Nat.{ℕ, suc, _+_}
 use native.Mathlib.Omega.{arith}
 use native.Mathlib.Numerals.{add-one}
-use mathlib.Core.Path.{_≡_, refl, ap, _∙_}
+use mathlib.Core.Path.{_≡_, refl, sym, ap, _∙_}
+use mathlib.Core.Bool.{Bool, true, false}
 use mathlib.Core.List.{List, [], _∷_, _++_}
 use mathlib.Core.Option.{none, some}
 use lib.ListN.{length}
 use Rattle.lists.proofs.Tests.{clash}
 use Rattle.sheet_rules.specs.declared.Reason.{Reason}
-use Rattle.type_rules.specs.Typing.{Fault, firstFault}
+use Rattle.type_rules.specs.Typing.{Fault, unless, firstFault}
 use Rattle.code_typing.specs.declared.Walked.{Walked}
 use Rattle.code_typing.specs.Walk.{walk, walkOn, walkVerdict}
 
@@ -42,3 +43,11 @@ unfolding walk
 walk-length n [] m e = let k : n ≡ m = cc in omega arith
 walk-length n (none ∷ fs) m e = let k = walk-length (suc n) fs m e in omega arith
 walk-length n (some r ∷ fs) m e = clash (cc)
+
+-- one line with a test
+
+pub line-good : (line : ℕ) (r : Reason) (b : Bool) → b ≡ true → Walked.On (line + 1) ≡ walk line (unless b r ∷ [])
+line-good line r b e = sym (walk-none (line + 1)) ∙ walk-good line [] ∙ ap (λ (x : Bool). walk line (unless x r ∷ [])) (sym e)
+
+pub line-bad : (line : ℕ) (r : Reason) (b : Bool) → b ≡ false → Walked.Stopped r line ≡ walk line (unless b r ∷ [])
+line-bad line r b e = walk-bad line r [] ∙ ap (λ (x : Bool). walk line (unless x r ∷ [])) (sym e)

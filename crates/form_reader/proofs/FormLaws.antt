@@ -28,7 +28,7 @@ use Rattle.keep_reader.specs.Reads.{KeepsRead}
 use Rattle.part_reader.specs.declared.PoolProgress.{PoolProgress}
 use Rattle.part_reader.specs.Reads.{plain}
 use Rattle.form_reader.specs.Reads.{PartsReady, partItem, PartsUsed, PartsRead, FormUsed, FormRead, partsRest, formRest}
-use Rattle.form_reader.proofs.PartsLaws.{not-moved}
+use Rattle.part_reader.proofs.PartLaws.{not-moved}
 
 -- a row's members are few enough for a number of the buffer
 pub few-members : (rows row₁ row parts : ℕ) (w : List ℕ) → Ready rows w → row < rows → row₁ ≡ row → parts ≡ cell w (rowAddress row₁ + 1) → parts ≤ 8

@@ -19,13 +19,14 @@ use Rattle.table.specs.View.{rowIn, rowsIn, formIn, formsIn}
 use Rattle.table.specs.Pool.{OnlyFrom, FormEnds}
 use Rattle.table.specs.Ready.{Ready}
 use Rattle.table.proofs.ViewLaws.{only-widen}
-use Rattle.table.proofs.PoolLaws.{from-refl, from-trans, row-kept, form-kept, form-ends-kept}
+use Rattle.table.proofs.RowLaws.{ready-kept}
+use Rattle.table.proofs.PoolLaws.{from-refl, from-trans, from→only, row-kept, form-kept, form-ends-kept}
 use Rattle.line_reader.specs.Told.{Room}
 use Rattle.read_loop.proofs.LoopLaws.{Going, Turn, going-start, going-next, going-stop, going-end}
 use Rattle.part_reader.specs.declared.PoolProgress.{PoolProgress}
 use Rattle.part_reader.specs.Reads.{plain}
 use Rattle.form_reader.specs.Reads.{FormUsed, FormRead, partsRest, formRest, formReader, FormsUsed, FormsRead}
-use Rattle.form_reader.proofs.PartsLaws.{not-moved, moved-used}
+use Rattle.part_reader.proofs.PartLaws.{not-moved, moved-used}
 
 -- the rule's reader of a form depends on the earlier ones by their instructions alone
 reader-by : (rows : List Row) (forms : ℕ) (earlier : List Form) (ls : List Line) (n : ℕ) → formReader rows forms (sizeOfForms earlier) ls n ≡ readForm rows forms earlier ls n
@@ -60,12 +61,7 @@ module _ (text : List ℕ) (rows count from first : ℕ) (w₀ : List ℕ) where
     rows-same = tab-ext (rowIn w) (rowIn w₀) rows (λ i h. row-kept (formAddress 0) 0 w₀ w (g .only) (omega arith) (omega arith) i)
 
     pub forms-ready : Ready rows w₀ → Ready rows w
-    forms-ready r =
-        record {
-          size = omega (arith, g .only .size, r .size);
-          rows = r .rows;
-          few = λ i h. (let a = g .only .below (rowAddress i + 1) (omega arith) in let b = r .few i h in omega arith);
-        }
+    forms-ready r = ready-kept rows (formAddress 0) tableEnd w₀ w (omega arith) (from→only (formAddress 0) 0 (g .only)) r
 
     module _ (l : f < count) (w′ : List ℕ) (p : PoolProgress) (r : FormRead text f used (formReader (rowsIn w rows) count used) at n w w′ p) where
       forms-before : formsIn w′ f ≡ formsIn w f

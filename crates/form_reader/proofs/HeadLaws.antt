@@ -23,7 +23,7 @@ use Rattle.read_loop.proofs.ThenLaws.{then-stop, past, advanced-sooner}
 use Rattle.part_reader.specs.declared.PoolProgress.{PoolProgress}
 use Rattle.part_reader.specs.Reads.{plain}
 use Rattle.form_reader.specs.Reads.{FormRead, formRest, formReader}
-use Rattle.form_reader.proofs.PartsLaws.{not-moved}
+use Rattle.part_reader.proofs.PartLaws.{not-moved}
 
 module _ (text : List ℕ) (f used rows forms at n : ℕ) (w : List ℕ) (p : PairLine)
     (told : pairRead text n formTold p ≡ one (formLine rows) (linesOf (drop at text)) n) where

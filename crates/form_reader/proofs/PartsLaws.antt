@@ -8,7 +8,6 @@ use mathlib.Core.List.{List, []}
 use lib.ListN.{length, getD, drop}
 use Rattle.lists.specs.Tab.{tab}
 use Rattle.lists.proofs.TabLaws.{tab-suc, tab-ext, length-tab}
-use Rattle.lists.proofs.Tests.{clash}
 use Rattle.sheet_rules.specs.declared.Member.{Member}
 use Rattle.sheet_rules.specs.declared.Reason.{Reason}
 use Rattle.sheet_rules.specs.Lines.{linesOf}
@@ -27,13 +26,8 @@ use Rattle.line_reader.specs.Told.{Room}
 use Rattle.read_loop.proofs.LoopLaws.{Going, Turn, going-start, going-next, going-stop, going-end}
 use Rattle.part_reader.specs.declared.PoolProgress.{PoolProgress}
 use Rattle.part_reader.specs.Reads.{plain, PartUsed, PartRead}
+use Rattle.part_reader.proofs.PartLaws.{not-moved, moved-used}
 use Rattle.form_reader.specs.Reads.{PartsReady, partItem, PartsUsed, PartsRead}
-
-pub not-moved : (q : Reason) (n at n′ u : ℕ) {A : Type 0} → PoolProgress.Refused q n ≡ PoolProgress.Moved at n′ u → A
-not-moved q n at n′ u e = clash (cc)
-
-pub moved-used : (at n v at′ n′ u : ℕ) → PoolProgress.Moved at n v ≡ PoolProgress.Moved at′ n′ u → v ≡ u
-moved-used at n v at′ n′ u e = cc
 
 module _ (text : List ℕ) (f row count forms keeps start from first : ℕ) (w₀ : List ℕ) where
   -- the rule's item, for the row's members, and what the table holds of it

@@ -48,13 +48,7 @@ module _ (ms : List Member) (j : ℕ) (same : hasField (drop j ms) ≡ hasField 
   unfolding hasField
   field-end l = sym (ap hasField (drop-of-length-le ms l)) ∙ same
 
--- one line with a test
-
-pub line-good : (line : ℕ) (r : Reason) (b : Bool) → b ≡ true → Walked.On (line + 1) ≡ walk line (unless b r ∷ [])
-line-good line r b e = sym (walk-none (line + 1)) ∙ walk-good line [] ∙ ap (λ (x : Bool). walk line (unless x r ∷ [])) (sym e)
-
-pub line-bad : (line : ℕ) (r : Reason) (b : Bool) → b ≡ false → Walked.Stopped r line ≡ walk line (unless b r ∷ [])
-line-bad line r b e = walk-bad line r [] ∙ ap (λ (x : Bool). walk line (unless x r ∷ [])) (sym e)
+-- tests joined
 
 pub neither : (a b : Bool) → a ≡ false → not (a && b) ≡ true
 neither a b e = ap (λ (x : Bool). not (x && b)) e

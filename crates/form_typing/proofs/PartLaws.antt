@@ -49,15 +49,6 @@ body-judged f argument result start count line w row row-is w₁ filled s count�
         ≡ instrFaults (tells w) (sheetIn w) (some ((formAt (sheetIn w) f) .row)) (some result) (bodyRows (formAt (sheetIn w) f) argument) (instrsIn w start count)
     faults = λ x. faultsOf (slots-tells w w₁ (s .only) x) (slots-sheet w w₁ (s .only) x) (row-is x) (s .rows x) (instrs x)
 
--- an `init` line
-module _ (fit : ℕ → ℕ → Bool) (a row line : ℕ) (t : Bool) (asked : t ≡ fit a row) where
-  pub init-fits : t ≡ true → Walked.On (line + 1) ≡ walk line (unless (fit a row) Misfit ∷ [])
-  init-fits e =
-      sym (walk-none (line + 1)) ∙ walk-good line [] ∙ ap (λ (b : Bool). walk line (unless b Misfit ∷ [])) (sym e ∙ asked)
-
-  pub init-misfit : t ≡ false → Walked.Stopped Misfit line ≡ walk line (unless (fit a row) Misfit ∷ [])
-  init-misfit e = walk-bad line Misfit [] ∙ ap (λ (b : Bool). walk line (unless b Misfit ∷ [])) (sym e ∙ asked)
-
 -- a part, by its member and its place
 module _ (f line : ℕ) (w : List ℕ) (m : Member) (p : PartPlace) where
   by : (m′ : Member) (p′ : PartPlace) → m ≡ m′ → p ≡ p′ → partFaultsIn w f m′ p′ ≡ partFaultsIn w f m p

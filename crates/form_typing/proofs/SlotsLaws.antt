@@ -55,14 +55,8 @@ module _ (f argument : ℕ) (w : List ℕ) (size : workSize ≤ length w) (row c
   only-first : OnlySlots w w₁
   only-first = subst (OnlySlots w) (sym e₁) (slot-only w 0 row)
 
-  only-two : OnlySlots w w₂
-  only-two = only-trans only-first (subst (OnlySlots w₁) (sym e₂) (slot-only w₁ 1 argument))
-
-  pub two-size : length w₂ ≡ length w
-  two-size = only-two .size
-
   pub two-only : OnlySlots w w₂
-  two-only = only-two
+  two-only = only-trans only-first (subst (OnlySlots w₁) (sym e₂) (slot-only w₁ 1 argument))
 
   slot-0 : cell w₂ (slotRowAddress 0) ≡ (formAt (sheetIn w) f) .row
   slot-0 =
@@ -79,7 +73,7 @@ module _ (f argument : ℕ) (w : List ℕ) (size : workSize ≤ length w) (row c
             ext-getD 0 (slotRowsIn w′ (2 + count)) (bodyRows (formAt (sheetIn w) f) argument) lengths
             (λ i h. getD-tab (λ v. cell w′ (slotRowAddress v)) (2 + count) i 0 (omega (arith, length-tab (λ v. cell w′ (slotRowAddress v)) (2 + count))) ∙ each i (omega (arith, length-tab (λ v. cell w′ (slotRowAddress v)) (2 + count))));
         few = omega arith;
-        only = only-trans only-two (k .only);
+        only = only-trans two-only (k .only);
       }
     where
       lengths : length (slotRowsIn w′ (2 + count)) ≡ length (bodyRows (formAt (sheetIn w) f) argument)
@@ -91,4 +85,4 @@ module _ (f argument : ℕ) (w : List ℕ) (size : workSize ≤ length w) (row c
       each (suc (suc i)) h =
           let p : suc (suc i) ≡ 2 + i = omega arith in
           ap (λ (x : ℕ). cell w′ (slotRowAddress x)) p ∙ k .kept i (omega arith)
-          ∙ ap (λ (x : Sheet). getD ((formAt x f) .keeps) i 0) (slots-sheet w w₂ only-two)
+          ∙ ap (λ (x : Sheet). getD ((formAt x f) .keeps) i 0) (slots-sheet w w₂ two-only)

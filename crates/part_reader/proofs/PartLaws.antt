@@ -33,8 +33,11 @@ use Rattle.instr_reader.specs.Reads.{InstrsRead}
 use Rattle.part_reader.specs.declared.PoolProgress.{PoolProgress}
 use Rattle.part_reader.specs.Reads.{pooled, plain, PartUsed, PartRead, fieldPart, bodyRest, methodPart}
 
-not-moved : (q : Reason) (n at n′ u : ℕ) {A : Type 0} → PoolProgress.Refused q n ≡ PoolProgress.Moved at n′ u → A
+pub not-moved : (q : Reason) (n at n′ u : ℕ) {A : Type 0} → PoolProgress.Refused q n ≡ PoolProgress.Moved at n′ u → A
 not-moved q n at n′ u e = clash (cc)
+
+pub moved-used : (at n v at′ n′ u : ℕ) → PoolProgress.Moved at n v ≡ PoolProgress.Moved at′ n′ u → v ≡ u
+moved-used at n v at′ n′ u e = cc
 
 module _ (text : List ℕ) (f j used at n : ℕ) (w : List ℕ) where
   -- nothing was stored
@@ -87,11 +90,8 @@ module _ (text : List ℕ) (f j used at n : ℕ) (w : List ℕ) where
                   advanced = (let z : at ≤ at′ = omega (arith, onward-later p v at′ n′ e o) in Advanced.moved z (onward-room p v at′ n′ e o));
                 };
             from = init-from;
-            used-then = λ a m u c. subst (PartUsed (partPut w f j 0 v 0) f j used) (moved-used a m u c) (init-used few);
+            used-then = λ a m u c. subst (PartUsed (partPut w f j 0 v 0) f j used) (moved-used at′ n′ used a m u c) (init-used few);
           })
-        where
-          moved-used : (a m u : ℕ) → PoolProgress.Moved at′ n′ used ≡ PoolProgress.Moved a m u → used ≡ u
-          moved-used a m u c = cc
 
   -- a body's instructions, read after its part was stored
   module _ (forms keeps count : ℕ) (hf : f < 64) (hj : j < 8) (some : 1 ≤ count) (room : used + count ≤ 1024) (size : workSize ≤ length w)
@@ -126,9 +126,9 @@ module _ (text : List ℕ) (f j used at n : ℕ) (w : List ℕ) where
         ends : partEnd w′ f j ≤ used + count
         ends = let e : partEnd w′ f j ≡ used + count = λ x. cond (eqb (tag x) 0) 0 (first x + second x) in omega arith
 
-    moved-used : (s : Progress) (a l u : ℕ) → pooled s (used + count) ≡ PoolProgress.Moved a l u → used + count ≡ u
-    moved-used (Progress.Moved a′ l′) a l u e = cc
-    moved-used (Progress.Refused q l′) a l u e = not-moved q l′ a l u e
+    pooled-used : (s : Progress) (a l u : ℕ) → pooled s (used + count) ≡ PoolProgress.Moved a l u → used + count ≡ u
+    pooled-used (Progress.Moved a′ l′) a l u e = moved-used a′ l′ (used + count) a l u e
+    pooled-used (Progress.Refused q l′) a l u e = not-moved q l′ a l u e
 
     body-kept : (p : PoolProgress) → p ≡ pooled r (used + count) → PartRead text f j used (bodyRest forms keeps count) at n w w′ p
     unfolding bodyRest andThen
@@ -145,7 +145,7 @@ module _ (text : List ℕ) (f j used at n : ℕ) (w : List ℕ) where
                 advanced = plainly r (m .advanced);
               };
           from = body-from;
-          used-then = λ a l u c. subst (PartUsed w′ f j used) (moved-used r a l u c) body-used;
+          used-then = λ a l u c. subst (PartUsed w′ f j used) (pooled-used r a l u c) body-used;
         })
       where
         two-more : keeps + 2 ≡ suc (suc keeps)

@@ -28,7 +28,7 @@ use Rattle.table.specs.Pool.{OnlyFrom, FormEnds, Placed}
 use Rattle.table.specs.Ready.{Ready}
 use Rattle.table.specs.Stores.{threePut, countsPut}
 use Rattle.table.proofs.ViewLaws.{SameFrom, only-refl, only-trans, only-widen, only-set, row-same, instr-same, part-same, form-same}
-use Rattle.table.proofs.PoolLaws.{instrs→from, row-kept, form-kept, form-ends-kept}
+use Rattle.table.proofs.PoolLaws.{instrs→from, row-kept, form-kept, ends-same, form-ends-kept}
 use Rattle.table.proofs.StoreLaws.{three-only, three-0, three-1, three-2}
 use Rattle.line_reader.specs.declared.NumberLine.{NumberLine}
 use Rattle.line_reader.specs.declared.Progress.{Progress}
@@ -72,16 +72,7 @@ module _ (w w₁ : List ℕ) (o : Only 0 4 w w₁) where
       (λ j h. part-same w w₁ f j (λ k l u. o .above k (omega arith)) (λ k l u t. instr-same w w₁ k (λ i a b. o .above i (omega arith))))
 
   counts-ends : (f p : ℕ) → FormEnds w f p → FormEnds w₁ f p
-  counts-ends f p e =
-      record {
-        few = omega (arith, same, e .few);
-        ends = λ j h.
-            subst (λ (x : ℕ). x ≤ p) (sym (λ x. cond (eqb (o .above (partAddress f j) (omega arith) x) 0) 0 (o .above (partAddress f j + 1) (omega arith) x + o .above (partAddress f j + 2) (omega arith) x)))
-            (e .ends j (omega (arith, same)));
-      }
-    where
-      same : cell w₁ (formAddress f + 2) ≡ cell w (formAddress f + 2)
-      same = o .above (formAddress f + 2) (omega arith)
+  counts-ends f p e = ends-same w w₁ f p (λ k l u. o .above k (omega arith)) e
 
 -- a refusal is no acceptance
 pub not-accepted : (q : Reason) (l : ℕ) (v : Verdict) → v ≡ Verdict.Refused q l → {A : Type 0} → v ≡ Verdict.Accepted → A
@@ -91,8 +82,8 @@ not-accepted q l v e c = go (sym e ∙ c)
     go x = clash (cc)
 
 -- the rest of a sheet, refused
-pub rest-refused : (text : List ℕ) (at n : ℕ) (q : Reason) (l : ℕ) (s : Sheet) (x : Read Sheet) (v : Verdict) → v ≡ Verdict.Refused q l → x ≡ refused q l → verdictMeans v s ≡ conclude x
-rest-refused text at n q l s x v ev ex = ap (λ (y : Verdict). verdictMeans y s) ev ∙ sym (ap conclude ex)
+pub rest-refused : (q : Reason) (l : ℕ) (s : Sheet) (x : Read Sheet) (v : Verdict) → v ≡ Verdict.Refused q l → x ≡ refused q l → verdictMeans v s ≡ conclude x
+rest-refused q l s x v ev ex = ap (λ (y : Verdict). verdictMeans y s) ev ∙ sym (ap conclude ex)
 
 module _ (text : List ℕ) (rows forms used at n : ℕ) (w : List ℕ) (ready : Ready rows w) (small : forms ≤ 64) (by : FormsUsed w forms used)
     (p : NumberLine) (told : numberRead text p ≡ one (bodyLine Key.Main used) (linesOf (drop at text)) n) where
@@ -104,7 +95,7 @@ module _ (text : List ℕ) (rows forms used at n : ℕ) (w : List ℕ) (ready : 
   unfolding mainRest
   main-refused q l e v ev =
       record {
-        told = rest-refused text at n q l (sheetIn w) _ v ev (number-stop text _ (instrsRest (rowsIn w rows) forms (formsIn w forms)) p told-here q l e);
+        told = rest-refused q l (sheetIn w) _ v ev (number-stop text _ (instrsRest (rowsIn w rows) forms (formsIn w forms)) p told-here q l e);
         only = only-refl 0 tableEnd w;
         placed = not-accepted q l v ev;
       }
@@ -144,7 +135,7 @@ module _ (text : List ℕ) (rows forms used at n : ℕ) (w : List ℕ) (ready : 
       instrs-refused q l c v ev =
           record {
             told =
-                rest-refused text at n q l (sheetIn w′) _ v ev
+                rest-refused q l (sheetIn w′) _ v ev
                 (told-main ∙ moved-stop text _ (endRest (rowsIn w rows) (formsIn w forms)) r (instrsIn w′ used i) (m .told) q l c);
             only = main-only;
             placed = not-accepted q l v ev;
@@ -197,7 +188,7 @@ module _ (text : List ℕ) (rows forms used at n : ℕ) (w : List ℕ) (ready : 
         after-main h =
             record {
               told =
-                  rest-refused text at n Malformed n″ (sheetIn w′) _ _ refl
+                  rest-refused Malformed n″ (sheetIn w′) _ _ refl
                   (told-end
                   ∙ then-stop _ (λ end. give (record { rows = rowsIn w rows; forms = formsIn w forms; main = instrsIn w′ used i })) Malformed n″ (sym (not-at-end text at″ n″ h)));
               only = main-only;

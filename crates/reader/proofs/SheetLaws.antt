@@ -29,7 +29,7 @@ use Rattle.table.specs.View.{cell, rowIn, rowsIn, formsIn, sheetIn}
 use Rattle.table.specs.Only.{Only}
 use Rattle.table.specs.Ready.{Ready}
 use Rattle.table.proofs.ViewLaws.{only-refl, only-trans, only-widen, row-same}
-use Rattle.table.proofs.RowLaws.{rows-ready}
+use Rattle.table.proofs.RowLaws.{rows-ready, ready-kept}
 use Rattle.line_reader.specs.declared.NumberLine.{NumberLine}
 use Rattle.line_reader.specs.declared.Progress.{Progress}
 use Rattle.line_reader.specs.Told.{Room, numberRead, readTold, Advanced}
@@ -50,7 +50,7 @@ module _ (text : List ℕ) (rows at n : ℕ) (w : List ℕ) (ready : Ready rows 
       → RestRead text (rowsRest (rowsIn w rows)) at n w w v
   unfolding rowsRest
   forms-line-refused q l e v ev =
-      record { told = rest-refused text at n q l (sheetIn w) _ v ev (number-stop text _ (formsRest (rowsIn w rows)) p told q l e); only = only-refl 0 tableEnd w; placed = not-accepted q l v ev }
+      record { told = rest-refused q l (sheetIn w) _ v ev (number-stop text _ (formsRest (rowsIn w rows)) p told q l e); only = only-refl 0 tableEnd w; placed = not-accepted q l v ev }
 
   module _ (f at′ n′ : ℕ) (e : p ≡ NumberLine.Number f at′ n′) where
     pub forms-few : f ≤ 64
@@ -72,19 +72,14 @@ module _ (text : List ℕ) (rows at n : ℕ) (w : List ℕ) (ready : Ready rows 
       forms-refused q l c v ev =
           record {
             told =
-                rest-refused text at n q l (sheetIn w₁) _ v ev
+                rest-refused q l (sheetIn w₁) _ v ev
                 (told-forms ∙ moved-stop text _ (mainRest (rowsIn w rows) f) (plain r) (formsIn w₁ f) (m .read .told) q l (ap plain c));
             only = forms-only;
             placed = not-accepted q l v ev;
           }
 
       pub forms-ready : Ready rows w₁
-      forms-ready =
-          record {
-            size = omega (arith, m .read .only .size, ready .size);
-            rows = ready .rows;
-            few = λ i h. (let a = m .read .only .below (rowAddress i + 1) (omega arith) in let b = ready .few i h in omega arith);
-          }
+      forms-ready = ready-kept rows (formAddress 0) tableEnd w w₁ (omega arith) (m .read .only) ready
 
       rows-same : rowsIn w₁ rows ≡ rowsIn w rows
       rows-same = tab-ext (rowIn w₁) (rowIn w) rows (λ i h. row-same w w₁ i (λ k l u. m .read .only .below k (omega arith)))
@@ -120,7 +115,7 @@ module _ (text : List ℕ) (w : List ℕ) (size : workSize ≤ length w)
   types-refused q l e v ev =
       record {
         told =
-            rest-refused text 0 1 q l (sheetIn w) _ v ev
+            rest-refused q l (sheetIn w) _ v ev
             (sheet-rest (linesOf (drop 0 text)) 1 ∙ number-stop text _ (λ t ls n. andThen (many t readRow [] ls n) rowsRest) p told q l e);
         only = only-refl 0 tableEnd w;
         placed = not-accepted q l v ev;
@@ -145,7 +140,7 @@ module _ (text : List ℕ) (w : List ℕ) (size : workSize ≤ length w)
       pub rows-refused : (q : Reason) (l : ℕ) → r ≡ Progress.Refused q l → (v : Verdict) → v ≡ Verdict.Refused q l → RestRead text readSheet 0 1 w w₁ v
       rows-refused q l c v ev =
           record {
-            told = rest-refused text 0 1 q l (sheetIn w₁) _ v ev (told-rows ∙ moved-stop text _ rowsRest r (rowsIn w₁ t) (m .told) q l c);
+            told = rest-refused q l (sheetIn w₁) _ v ev (told-rows ∙ moved-stop text _ rowsRest r (rowsIn w₁ t) (m .told) q l c);
             only = rows-only;
             placed = not-accepted q l v ev;
           }

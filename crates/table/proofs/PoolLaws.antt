@@ -9,7 +9,7 @@ use Rattle.table.specs.Layout.{formCountAt, mainStartAt, mainCountAt, ro
 use Rattle.table.specs.View.{cell, instrIn, partIn, formIn, rowIn}
 use Rattle.table.specs.Only.{Only}
 use Rattle.table.specs.Pool.{OnlyFrom, partEnd, PartsEnd, FormEnds, Placed}
-use Rattle.table.proofs.ViewLaws.{SameTable, instr-same, part-same, form-same, row-same}
+use Rattle.table.proofs.ViewLaws.{SameFrom, SameTable, instr-same, part-same, form-same, row-same}
 
 -- OnlyFrom: reflexive, composes while the pool grows, and follows from Only
 
@@ -39,6 +39,24 @@ pub instrs→from : {lo : ℕ} {w w′ : List ℕ} (p count : ℕ) → lo ≤ in
 instrs→from p count l s h o =
     record { size = o .size; below = λ i u. o .below i (omega arith); pool = λ i k u. o .below i (omega arith); above = λ i k. o .above i (omega arith) }
 
+-- where a form's parts end depends on its block alone
+
+pub end-same : (w w′ : List ℕ) (f j : ℕ) → SameFrom (partAddress f j) 3 w w′ → partEnd w′ f j ≡ partEnd w f j
+end-same w w′ f j h =
+    λ x. cond (eqb (h (partAddress f j) (omega arith) (omega arith) x) 0) 0
+    (h (partAddress f j + 1) (omega arith) (omega arith) x + h (partAddress f j + 2) (omega arith) (omega arith) x)
+
+pub ends-same : (w w′ : List ℕ) (f p : ℕ) → SameFrom (formAddress f) 36 w w′ → FormEnds w f p → FormEnds w′ f p
+ends-same w w′ f p h e =
+    let n : cell w′ (formAddress f + 2) ≡ cell w (formAddress f + 2) = h (formAddress f + 2) (omega arith) (omega arith) in
+    record {
+      few = omega (arith, e .few);
+      ends = λ j k. (let a = end-same w w′ f j (λ i l u. h i (omega arith) (omega arith)) in let b = e .ends j (omega arith) in omega arith);
+    }
+
+pub ends-more : (w : List ℕ) (f p q : ℕ) → p ≤ q → FormEnds w f p → FormEnds w f q
+ends-more w f p q l e = record { few = e .few; ends = λ j k. (let b = e .ends j k in omega arith) }
+
 -- what came before
 
 module _ (lo p : ℕ) (w w′ : List ℕ) (o : OnlyFrom lo p w w′) (few : p ≤ 1024) where
@@ -49,9 +67,7 @@ module _ (lo p : ℕ) (w w′ : List ℕ) (o : OnlyFrom lo p w w′) (few : p �
   row-kept l i = row-same w w′ i (λ k h u. o .below k (omega arith))
 
   pub end-kept : (f j : ℕ) → partAddress f j + 3 ≤ lo → partEnd w′ f j ≡ partEnd w f j
-  end-kept f j h =
-      λ x. cond (eqb (o .below (partAddress f j) (omega arith) x) 0) 0
-      (o .below (partAddress f j + 1) (omega arith) x + o .below (partAddress f j + 2) (omega arith) x)
+  end-kept f j h = end-same w w′ f j (λ k l u. o .below k (omega arith))
 
   pub part-kept : (f j : ℕ) → partAddress f j + 3 ≤ lo → partEnd w f j ≤ p → partIn w′ f j ≡ partIn w f j
   part-kept f j h e =
@@ -67,31 +83,12 @@ module _ (lo p : ℕ) (w w′ : List ℕ) (o : OnlyFrom lo p w w′) (few : p �
       (λ j u. part-kept f j (omega arith) (e .ends j u))
 
   pub form-ends-kept : (f q : ℕ) → p ≤ q → formAddress f + 36 ≤ lo → FormEnds w f p → FormEnds w′ f q
-  form-ends-kept f q l h e =
-      record {
-        few = omega (arith, count, e .few);
-        ends = λ j u. (let z = e .ends j (omega (arith, count)) in let k = end-kept f j (omega arith) in omega arith);
-      }
-    where
-      count : cell w′ (formAddress f + 2) ≡ cell w (formAddress f + 2)
-      count = o .below (formAddress f + 2) (omega arith)
+  form-ends-kept f q l h e = ends-more w′ f p q l (ends-same w w′ f p (λ k a u. o .below k (omega arith)) e)
 
 -- what stands in the pool depends on the table alone
 pub placed-same : (w w′ : List ℕ) → SameTable w w′ → Placed w → Placed w′
 placed-same w w′ h p =
     record {
-      forms = forms;
+      forms = λ f l. ends-same w w′ f 1024 (λ k a u. h k (omega arith)) (p .forms f (let b = h formCountAt (omega arith) in omega arith));
       main = (let a = h mainStartAt (omega arith) in let b = h mainCountAt (omega arith) in let c = p .main in omega arith);
     }
-  where
-    forms : (f : ℕ) → f < cell w′ formCountAt → FormEnds w′ f 1024
-    forms f l =
-        let e = p .forms f (let a = h formCountAt (omega arith) in omega arith) in
-        let n : cell w′ (formAddress f + 2) ≡ cell w (formAddress f + 2) = h (formAddress f + 2) (omega arith) in
-        record {
-          few = omega (arith, e .few);
-          ends = λ j k.
-              subst (λ (x : ℕ). x ≤ 1024)
-              (sym (λ x. cond (eqb (h (partAddress f j) (omega arith) x) 0) 0 (h (partAddress f j + 1) (omega arith) x + h (partAddress f j + 2) (omega arith) x)))
-              (e .ends j (omega arith));
-        }

@@ -15,6 +15,7 @@ use Rattle.sheet_rules.specs.WellFormed.{WellFormedRow}
 use Rattle.sheet_rules.specs.RowLines.{kindOf}
 use Rattle.table.specs.Layout.{rowCountAt, rowAddress, memberAddress, workSize}
 use Rattle.table.specs.View.{cell, memberFrom, memberIn, rowIn, rowsIn, sheetIn}
+use Rattle.table.specs.Only.{Only}
 use Rattle.table.specs.Ready.{Ready}
 
 -- the addresses, without the clamps
@@ -84,3 +85,12 @@ rows-ready n w size h all = record { size = size; rows = h; few = few }
     few : (i : ℕ) → i < n → cell w (rowAddress i + 1) ≤ 8
     few i k =
         subst (λ (m : ℕ). m ≤ memberLimit) (ap (λ (a : Row). length (a .members)) (getD-tab (rowIn w) n i noRow k) ∙ members-length w i) ((all i) .few)
+
+-- and where the rows are as they were
+pub ready-kept : (n lo hi : ℕ) (w w′ : List ℕ) → rowAddress 63 + 36 ≤ lo → Only lo hi w w′ → Ready n w → Ready n w′
+ready-kept n lo hi w w′ l o r =
+    record {
+      size = omega (arith, o .size, r .size);
+      rows = r .rows;
+      few = λ i h. (let a = o .below (rowAddress i + 1) (omega arith) in let b = r .few i h in omega arith);
+    }

@@ -57,10 +57,10 @@ module _ (rows : List Row) where
 
 -- main
 
-pub main-judged : (w : List ℕ) (start count line : ℕ) (main : List Instr) → main ≡ (sheetIn w) .main → (w′ : List ℕ) (r : Walked)
+pub main-judged : (w : List ℕ) (line : ℕ) (main : List Instr) → main ≡ (sheetIn w) .main → (w′ : List ℕ) (r : Walked)
     → LinesJudged (instrFaults (tells w) (sheetIn w) none none (slotRowsIn w 0) main) (line + 1) w w′ r → LinesJudged (mainFaultsIn w) line w w′ r
 unfolding tab
-main-judged w start count line main e w′ r k =
+main-judged w line main e w′ r k =
     record {
       told = k .told ∙ walk-good line _ ∙ ap (λ (is : List Instr). walk line (none ∷ instrFaults (tells w) (sheetIn w) none none [] is)) e;
       only = k .only;

@@ -5,7 +5,8 @@ use Rattle.sheet_rules.specs.declared.Reason.the-variants.{ImpureForm}
 use Rattle.sheet_rules.specs.Sheet.{rowAt}
 use Rattle.type_rules.specs.Typing.{isPure, hasField, membersAt}
 use Rattle.table.specs.View.{sheetIn}
-use Rattle.form_typing.proofs.HeadLaws.{line-good, line-bad, neither, not-both, both}
+use Rattle.form_typing.proofs.HeadLaws.{neither, not-both, both}
+use Rattle.code_typing.proofs.WalkLaws.{line-good, line-bad}
 use borrow.Author.Needs.{needs}
 use Rattle.form_typing.proofs.judge_head.Statement.{statement}
 use Rattle.form_typing.proofs.judge_head.Tie as tie

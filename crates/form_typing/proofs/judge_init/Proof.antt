@@ -1,10 +1,11 @@
+use Rattle.sheet_rules.specs.declared.Reason.the-variants.{Misfit}
+use Rattle.code_typing.proofs.WalkLaws.{line-good, line-bad}
 use Prim.Native.Nat.{ℕ}
-use mathlib.Core.Path.{ap, _∙_}
+use mathlib.Core.Path.{sym, ap, _∙_}
 use lib.ListN.{getD}
 use Rattle.sheet_rules.specs.Sheet.{formAt}
 use Rattle.table.specs.View.{sheetIn}
 use Rattle.fit.specs.Told.{tells}
-use Rattle.form_typing.proofs.PartLaws.{init-fits, init-misfit}
 use borrow.Author.Needs.{needs}
 use Rattle.form_typing.proofs.judge_init.Statement.{statement}
 use Rattle.form_typing.proofs.judge_init.Tie as tie
@@ -32,11 +33,15 @@ add-t9 c = search needs
 
 -- src/lib.rt:83:9
 returns : tie.Need-returns
-returns c = init-fits (tells (c .before .before .before .before .before .args .work .now)) (getD ((formAt (sheetIn (c .before .before .before .before .before .args .work .now)) (c .before .before .before .before .before .args .f)) .keeps) (c .before .before .before .before .before .args .kept) 0) (c .before .before .before .before .before .args .row) (c .before .before .before .before .before .args .line) (c .before .fits2 .result) (c .before .fits2 .ensures ∙ ap (λ (a : ℕ). tells (c .before .before .before .before .before .args .work .now) a (c .before .before .before .before .before .args .row)) (c .before .before .keep .ensures ∙ ap (λ (k : ℕ). getD ((formAt (sheetIn (c .before .before .before .before .before .args .work .now)) (c .before .before .before .before .before .args .f)) .keeps) k 0) (c .before .before .before .wide .ensures))) (c .if1 .taken)
+returns c =
+    line-good (c .before .before .before .before .before .args .line) Misfit (tells (c .before .before .before .before .before .args .work .now) (getD ((formAt (sheetIn (c .before .before .before .before .before .args .work .now)) (c .before .before .before .before .before .args .f)) .keeps) (c .before .before .before .before .before .args .kept) 0) (c .before .before .before .before .before .args .row))
+    (sym (c .before .fits2 .ensures ∙ ap (λ (a : ℕ). tells (c .before .before .before .before .before .args .work .now) a (c .before .before .before .before .before .args .row)) (c .before .before .keep .ensures ∙ ap (λ (k : ℕ). getD ((formAt (sheetIn (c .before .before .before .before .before .args .work .now)) (c .before .before .before .before .before .args .f)) .keeps) k 0) (c .before .before .before .wide .ensures))) ∙ c .if1 .taken)
 
 -- src/lib.rt:77:1
 returns-2 : tie.Need-returns-2
-returns-2 c = init-misfit (tells (c .before .before .before .before .before .args .work .now)) (getD ((formAt (sheetIn (c .before .before .before .before .before .args .work .now)) (c .before .before .before .before .before .args .f)) .keeps) (c .before .before .before .before .before .args .kept) 0) (c .before .before .before .before .before .args .row) (c .before .before .before .before .before .args .line) (c .before .fits2 .result) (c .before .fits2 .ensures ∙ ap (λ (a : ℕ). tells (c .before .before .before .before .before .args .work .now) a (c .before .before .before .before .before .args .row)) (c .before .before .keep .ensures ∙ ap (λ (k : ℕ). getD ((formAt (sheetIn (c .before .before .before .before .before .args .work .now)) (c .before .before .before .before .before .args .f)) .keeps) k 0) (c .before .before .before .wide .ensures))) (c .if1 .left)
+returns-2 c =
+    line-bad (c .before .before .before .before .before .args .line) Misfit (tells (c .before .before .before .before .before .args .work .now) (getD ((formAt (sheetIn (c .before .before .before .before .before .args .work .now)) (c .before .before .before .before .before .args .f)) .keeps) (c .before .before .before .before .before .args .kept) 0) (c .before .before .before .before .before .args .row))
+    (sym (c .before .fits2 .ensures ∙ ap (λ (a : ℕ). tells (c .before .before .before .before .before .args .work .now) a (c .before .before .before .before .before .args .row)) (c .before .before .keep .ensures ∙ ap (λ (k : ℕ). getD ((formAt (sheetIn (c .before .before .before .before .before .args .work .now)) (c .before .before .before .before .before .args .f)) .keeps) k 0) (c .before .before .before .wide .ensures))) ∙ c .if1 .left)
 
 pub judge-init-spec : {M : Type 1} → statement M
 judge-init-spec =
