@@ -4,9 +4,11 @@ use native.Mathlib.Omega.{arith}
 use mathlib.Core.Path.{_≡_, refl, ap, _∙_, subst}
 use mathlib.Core.Bool.{Bool, true, false, cond}
 use mathlib.Core.List.{List, [], _∷_}
-use mathlib.Core.Option.{Option, none, some}
+use mathlib.Core.Option.{Option, some}
 use lib.Dec.{eqb}
 use lib.ListN.{length, getD}
+use borrow.Author.Tests.{eqb-true}
+use Rattle.lists.specs.In.{In, here, there}
 use Rattle.lists.specs.Pairwise.{Pairwise, pair}
 use Rattle.lists.proofs.Tests.{clash}
 use Rattle.sheet_rules.specs.declared.Member.{Member}
@@ -22,6 +24,7 @@ use Rattle.machine_rules.specs.Sound.{fieldRows, Receives, main, object}
 
 -- the body that a form has for a method of its row
 pub record HasBody (s : Sheet) (f : Form) (ms : List Member) (ps : List Part) (n : ℕ) (m : Signature) : Type 0 where
+  pub member : In (Method n (m .argument) (m .result)) ms
   pub code : List Instr
   pub lookedUp : bodyIn ms ps n ≡ some code
   pub typed : CodeTyped s (some (f .row)) (some (m .result)) (bodyRows f (m .argument)) code
@@ -32,21 +35,28 @@ unfolding methodIn bodyIn
 body-found n m Pairwise.none e = clash (cc)
 body-found n m (pair (typed-init h) p) e =
     let b = body-found n m p e in
-    record { code = b .code; lookedUp = b .lookedUp; typed = b .typed }
+    record { member = there (b .member); code = b .code; lookedUp = b .lookedUp; typed = b .typed }
 body-found {s} {f} n m (pair {xs = ms} {ys = ps} (typed-body {n = k} {a = a} {r = r} {is = is} c) p) e = go (eqb k n) refl e (body-found n m p)
   where
     go : (b : Bool) → eqb k n ≡ b → cond b (some (record { argument = a; result = r })) (methodIn ms n) ≡ some m
         → (methodIn ms n ≡ some m → HasBody s f ms ps n m) → HasBody s f (Method k a r ∷ ms) (body is ∷ ps) n m
     go true q e more =
+        let same : k ≡ n = eqb-true k n q in
         let this : record { argument = a; result = r } ≡ m = cc in
         record {
+          member = here {y = Method k a r} (cc (same, ap (λ (x : Signature). x .argument) this, ap (λ (x : Signature). x .result) this));
           code = is;
           lookedUp = ap (λ (t : Bool). cond t (some is) (bodyIn ms ps n)) q;
           typed = subst (λ (x : Signature). CodeTyped s (some (f .row)) (some (x .result)) (bodyRows f (x .argument)) is) this c;
         }
     go false q e more =
         let b = more e in
-        record { code = b .code; lookedUp = ap (λ (t : Bool). cond t (some is) (bodyIn ms ps n)) q ∙ b .lookedUp; typed = b .typed }
+        record {
+          member = there (b .member);
+          code = b .code;
+          lookedUp = ap (λ (t : Bool). cond t (some is) (bodyIn ms ps n)) q ∙ b .lookedUp;
+          typed = b .typed;
+        }
 
 -- it is no longer than a body may be
 pub body-few : {forms keeps : ℕ} {ms : List Member} {ps : List Part} (n : ℕ) (is : List Instr) → Pairwise (PartOf forms keeps) ms ps
@@ -62,6 +72,7 @@ body-few n is (pair {xs = ms} {ys = ps} (PartOf.method {n = k} {is = js} w) p) e
 
 -- the place that a field of a row has
 pub record HasField (ms : List Member) (n r : ℕ) : Type 0 where
+  pub member : In (Field n r) ms
   pub place : ℕ
   pub lookedUp : fieldPlace ms n ≡ some place
   pub inside : place < length (fieldRows ms)
@@ -72,15 +83,24 @@ unfolding fieldIn fieldPlace fieldRows
 field-found [] n r e = clash (cc)
 field-found (Method k a b ∷ ms) n r e =
     let h = field-found ms n r e in
-    record { place = h .place; lookedUp = h .lookedUp; inside = h .inside; row = h .row }
+    record { member = there (h .member); place = h .place; lookedUp = h .lookedUp; inside = h .inside; row = h .row }
 field-found (Field k b ∷ ms) n r e = go (eqb k n) refl e (field-found ms n r)
   where
     go : (t : Bool) → eqb k n ≡ t → cond t (some b) (fieldIn ms n) ≡ some r → (fieldIn ms n ≡ some r → HasField ms n r) → HasField (Field k b ∷ ms) n r
     go true q e more =
-        record { place = 0; lookedUp = ap (λ (t : Bool). cond t (some 0) (nextPlace (fieldPlace ms n))) q; inside = omega arith; row = cc }
+        let same : k ≡ n = eqb-true k n q in
+        let this : b ≡ r = cc in
+        record {
+          member = here {y = Field k b} (cc (same, this));
+          place = 0;
+          lookedUp = ap (λ (t : Bool). cond t (some 0) (nextPlace (fieldPlace ms n))) q;
+          inside = omega arith;
+          row = this;
+        }
     go false q e more =
         let h = more e in
         record {
+          member = there (h .member);
           place = suc (h .place);
           lookedUp = ap (λ (t : Bool). cond t (some 0) (nextPlace (fieldPlace ms n))) q ∙ ap nextPlace (h .lookedUp);
           inside = omega (arith, h .inside);

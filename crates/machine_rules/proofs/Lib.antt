@@ -5,6 +5,8 @@ pub mod NextLaws
 pub mod StoreLaws
 pub mod FoundLaws
 pub mod NextSound
+pub mod TakenLaws
 pub mod StoppedLaws
 pub mod SoundLaws
 pub mod BoundsLaws
+pub mod ReadyLaws

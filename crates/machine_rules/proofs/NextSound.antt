@@ -114,6 +114,21 @@ module _ (s : Sheet) (w : WellFormed s) (t : Typed s) (σ : State) (c : Sound s 
           (omega (arith, l, ltb-true (length (σ .objects)) storeLimit e)) is (length (σ .objects)) ((formAt s f) .row) left is-x)
       go false e = its-store (a-new, omega (arith, ltb-false (length (σ .objects)) storeLimit e, c .places))
 
+  -- the object that a typed call finds in a slot, and the body that its form has for the method
+  pub record Callee (o n : ℕ) (m : Signature) (f : Form) : Type 0 where
+    pub is-receiver : Is s (σ .objects) (getD (σ .top .slots) o 0) (getD (c .rows) o 0)
+    pub found : Found s (f .row) n m
+    pub has : HasBody s f (membersAt s (f .row)) (f .parts) n (found .found)
+
+  pub callee : (o n : ℕ) (m : Signature) → o < length (c .rows) → methodIn (membersAt s (getD (c .rows) o 0)) n ≡ some m
+      → Callee o n m (formAt s ((objectAt (σ .objects) (getD (σ .top .slots) o 0)) .form))
+  callee o n m h e =
+      let receiver : ℕ = getD (σ .top .slots) o 0 in
+      let f : Form = formAt s ((objectAt (σ .objects) receiver) .form) in
+      let i : Is s (σ .objects) receiver (getD (c .rows) o 0) = slot-is s (σ .objects) (σ .top .slots) (c .rows) o (c .top .slots) h in
+      let x : Found s (f .row) n m = fits-method s w (f .row) (getD (c .rows) o 0) n m (i .fit) e in
+      record { is-receiver = i; found = x; has = body-found n (x .found) (form-of s t σ c receiver (i .made) .parts) (x .lookedUp) }
+
   call-goes : (is : List Instr) (o n a : ℕ) (m : Signature) → o < length (c .rows) → methodIn (membersAt s (getD (c .rows) o 0)) n ≡ some m
       → SlotFits s (c .rows) a (m .argument) → Left (m .result) is
       → Goes s σ (call o n a ∷ is) (callStep s σ is (getD (σ .top .slots) o 0) n (getD (σ .top .slots) a 0))
@@ -128,8 +143,11 @@ module _ (s : Sheet) (w : WellFormed s) (t : Typed s) (σ : State) (c : Sound s 
       f : Form
       f = formAt s ((objectAt (σ .objects) receiver) .form)
 
+      called : Callee o n m f
+      called = callee o n m h e
+
       is-receiver : Is s (σ .objects) receiver (getD (c .rows) o 0)
-      is-receiver = slot-is s (σ .objects) (σ .top .slots) (c .rows) o (c .top .slots) h
+      is-receiver = called .is-receiver
 
       there : SoundObject s (σ .objects) (objectAt (σ .objects) receiver)
       there = c .store receiver (is-receiver .made)
@@ -138,10 +156,10 @@ module _ (s : Sheet) (w : WellFormed s) (t : Typed s) (σ : State) (c : Sound s 
       wellFormed = w .forms f (in-getD (s .forms) ((objectAt (σ .objects) receiver) .form) noForm (there .form))
 
       found : Found s (f .row) n m
-      found = fits-method s w (f .row) (getD (c .rows) o 0) n m (is-receiver .fit) e
+      found = called .found
 
       has : HasBody s f (membersAt s (f .row)) (f .parts) n (found .found)
-      has = body-found n (found .found) (form-of s t σ c receiver (is-receiver .made) .parts) (found .lookedUp)
+      has = called .has
 
       is-argument : Is s (σ .objects) argument (found .found .argument)
       is-argument =

@@ -42,13 +42,33 @@ after s (suc n) = stepFrom s (after s n)
 abbrev pub tallyOf : ℕ → State → Tally
 tallyOf n σ = record { steps = n; objects = length (σ .objects); frames = frameCount σ }
 
+-- the counts at the start: no step, no object, main's frame (The machine)
+abbrev pub startTally : Tally
+startTally = record { steps = 0; objects = 0; frames = 1 }
+
+-- the counts after one step more, which made an object (The machine)
+abbrev pub created : Tally → Tally
+created t = record { steps = suc (t .steps); objects = suc (t .objects); frames = t .frames }
+
+-- which called (The machine)
+abbrev pub called : Tally → Tally
+called t = record { steps = suc (t .steps); objects = t .objects; frames = suc (t .frames) }
+
+-- which returned (The machine)
+abbrev pub returned : Tally → Tally
+returned t = record { steps = suc (t .steps); objects = t .objects; frames = pred (t .frames) }
+
+-- which did none of these (The machine)
+abbrev pub worked : Tally → Tally
+worked t = record { steps = suc (t .steps); objects = t .objects; frames = t .frames }
+
 -- one step more: a creation adds an object, a call a frame, and a return takes one away, so that the number of objects is the
 -- creations taken, and the number of frames one plus calls less returns (StepsLaws.tally-next) (The machine)
 abbrev pub counted : Action → Tally → Tally
-counted (creates c kept) t = record { steps = suc (t .steps); objects = suc (t .objects); frames = t .frames }
-counted (calls receiver argument) t = record { steps = suc (t .steps); objects = t .objects; frames = suc (t .frames) }
-counted returns t = record { steps = suc (t .steps); objects = t .objects; frames = pred (t .frames) }
-counted works t = record { steps = suc (t .steps); objects = t .objects; frames = t .frames }
+counted (creates c kept) t = created t
+counted (calls receiver argument) t = called t
+counted returns t = returned t
+counted works t = worked t
 
 -- THE RUN
 

@@ -1,5 +1,6 @@
 -- Where everything lies in the 32,768 numbers of the work buffer. Every place is clamped into its own part, so that parts never
--- overlap, whatever the numbers in them are. Nothing outside this crate knows an offset. Stands on nothing.
+-- overlap, whatever the numbers in them are. Only this crate and those above it that hold or read the machine's state
+-- (machine_state, member_places, marks, authority) write an offset. Stands on nothing.
 use Prim.Native.Nat.{ℕ, _+_, _*_, min}
 
 -- the sheet's counts: rows, forms, where main's instructions begin, and how many they are
@@ -45,7 +46,7 @@ poolAddress p = 4624 + 11 * min p 1024
 abbrev pub tableEnd : ℕ
 tableEnd = 15888
 
--- 64 times 64 answers of fit, and after the verdict the place of each form's bodies by name
+-- 64 times 64 answers of fit; for a run, the places of each form's members by name
 abbrev pub fitAddress : ℕ → ℕ → ℕ
 fitAddress a b = 15888 + (64 * min a 63 + min b 63)
 
@@ -61,7 +62,7 @@ objectAddress o = 20048 + 17 * min o 255
 abbrev pub frameAddress : ℕ → ℕ
 frameAddress f = 24400 + 48 * min f 63
 
--- room to spare, for devices and marks, from here to the end
+-- 256 marks of objects, and then room to spare, for devices, from here to the end
 abbrev pub stateEnd : ℕ
 stateEnd = 27472
 

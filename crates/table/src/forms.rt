@@ -1,11 +1,11 @@
 // The forms that the work buffer holds, read by number. A number that is not there is answered as the rules answer it.
 ghost use mathlib.Core.Path.{_≡_};
-ghost use Prim.Native.Nat.{_≤_, _<_};
+ghost use Prim.Native.Nat.{_≤_, _<_, _+_};
 ghost use lib.ListN.{length, getD};
 ghost use Rattle.sheet_rules.specs.Sheet.{formAt};
-ghost use Rattle.table.specs.Layout.{workSize};
+ghost use Rattle.table.specs.Layout.{formAddress, partAddress, workSize};
 ghost use Rattle.table.specs.Told.{partTold};
-ghost use Rattle.table.specs.View.{partIn, sheetIn};
+ghost use Rattle.table.specs.View.{cell as cellOf, partIn, sheetIn};
 ghost use Rattle.table.specs.Whole.{Whole};
 use crate::rows::wide;
 
@@ -34,6 +34,14 @@ pub fn form_row(work: &[u16], f: usize) -> u16
     work[2320 + 36 * f]
 }
 
+// How many values form f keeps, for a form that is known to be there: nothing is tested.
+pub fn keeps_of(work: &[u16], f: usize) -> usize
+    requires { ⌜ Whole (now work) × (f < length ((sheetIn (now work)) .forms)) ⌝ }
+    ensures { λ r. ⌜ (r ≡ length ((formAt (sheetIn (now (work .entry))) f) .keeps)) × (r ≤ 8) ⌝ }
+{
+    wide(work[2320 + 36 * f + 1])
+}
+
 // How many values form f keeps.
 pub fn keep_count(work: &[u16], f: usize) -> usize
     requires { ⌜ Whole (now work) ⌝ }
@@ -42,7 +50,7 @@ pub fn keep_count(work: &[u16], f: usize) -> usize
     if form_count(work) <= f {
         return 0;
     }
-    wide(work[2320 + 36 * f + 1])
+    keeps_of(work, f)
 }
 
 // The row of kept value j of form f.
@@ -73,4 +81,28 @@ pub fn part(work: &[u16], f: usize, j: usize) -> PartPlace
         start: first,
         count: work[at + 2],
     }
+}
+
+// How many parts form f has.
+pub fn part_count(work: &[u16], f: usize) -> usize
+    requires { ⌜ (f < 64) × (workSize ≤ length (now work)) ⌝ }
+    ensures { λ r. ⌜ r ≡ cellOf (now (work .entry)) (formAddress f + 2) ⌝ }
+{
+    wide(work[2320 + 36 * f + 2])
+}
+
+// Where the instructions of part j of form f begin, if it is a body.
+pub fn body_start(work: &[u16], f: usize, j: usize) -> usize
+    requires { ⌜ (f < 64) × (j < 8) × (workSize ≤ length (now work)) ⌝ }
+    ensures { λ r. ⌜ r ≡ cellOf (now (work .entry)) (partAddress f j + 1) ⌝ }
+{
+    wide(work[2320 + 36 * f + (11 + 3 * j) + 1])
+}
+
+// How many they are.
+pub fn body_count(work: &[u16], f: usize, j: usize) -> usize
+    requires { ⌜ (f < 64) × (j < 8) × (workSize ≤ length (now work)) ⌝ }
+    ensures { λ r. ⌜ r ≡ cellOf (now (work .entry)) (partAddress f j + 2) ⌝ }
+{
+    wide(work[2320 + 36 * f + (11 + 3 * j) + 2])
 }

@@ -1,9 +1,9 @@
 // The instructions that the work buffer holds, read by their place in the pool, and the rows of a body's slots.
 ghost use mathlib.Core.Path.{_≡_};
-ghost use Prim.Native.Nat.{_≤_, _<_, min};
+ghost use Prim.Native.Nat.{_≤_, _<_, _+_, min};
 ghost use lib.ListN.{length, getD, set};
 ghost use Rattle.table.specs.Layout.{mainStartAt, mainCountAt, instrAddress, slotRowAddress, workSize};
-ghost use Rattle.table.specs.Told.{newSlots, instrTold, slotRowsIn};
+ghost use Rattle.table.specs.Told.{newSlots, instrTold, ToldFrom, slotRowsIn};
 ghost use Rattle.table.specs.View.{cell as cellOf, instrIn};
 ghost use Rattle.table.specs.Whole.{Whole};
 use crate::rows::wide;
@@ -48,12 +48,11 @@ pub fn instr_address(p: usize) -> usize
     4624 + 11 * p
 }
 
-// The instruction at place p of the pool.
-pub fn instr_at(work: &[u16], p: usize) -> Instruction
-    requires { ⌜ workSize ≤ length (now work) ⌝ }
-    ensures { λ r. ⌜ instrTold (newSlots (now (work .entry)) p) r ≡ instrIn (now (work .entry)) p ⌝ }
+// The instruction whose numbers begin at a place.
+fn instr_from(work: &[u16], at: usize) -> Instruction
+    requires { ⌜ at + 11 ≤ length (now work) ⌝ }
+    ensures { λ r. ⌜ ToldFrom (now (work .entry)) at r ⌝ }
 {
-    let at = 4624 + 11 * within_pool(p);
     match work[at] {
         10 => Instruction::New { form: work[at + 2] },
         11 => Instruction::Call {
@@ -68,6 +67,22 @@ pub fn instr_at(work: &[u16], p: usize) -> Instruction
         },
         _ => Instruction::Copy { slot: work[at + 2] },
     }
+}
+
+// The instruction at place p of the pool.
+pub fn instr_at(work: &[u16], p: usize) -> Instruction
+    requires { ⌜ workSize ≤ length (now work) ⌝ }
+    ensures { λ r. ⌜ instrTold (newSlots (now (work .entry)) p) r ≡ instrIn (now (work .entry)) p ⌝ }
+{
+    instr_from(work, 4624 + 11 * within_pool(p))
+}
+
+// The same for a place that is known to be in the pool: nothing is tested.
+pub fn instr_placed(work: &[u16], p: usize) -> Instruction
+    requires { ⌜ (p < 1024) × (workSize ≤ length (now work)) ⌝ }
+    ensures { λ r. ⌜ instrTold (newSlots (now (work .entry)) p) r ≡ instrIn (now (work .entry)) p ⌝ }
+{
+    instr_from(work, instr_address(p))
 }
 
 // Where main's instructions begin.
@@ -110,6 +125,14 @@ pub fn new_slot(work: &[u16], p: usize, k: usize) -> u16
         return 0;
     }
     work[4624 + 11 * within_pool(p) + (3 + k)]
+}
+
+// The same for a slot that is known to be named: nothing is tested.
+pub fn slot_named(work: &[u16], p: usize, k: usize) -> u16
+    requires { ⌜ (p < 1024) × (k < length (newSlots (now work) p)) × (k < 8) × (workSize ≤ length (now work)) ⌝ }
+    ensures { λ r. ⌜ r ≡ getD (newSlots (now (work .entry)) p) k 0 ⌝ }
+{
+    work[4624 + 11 * p + (3 + k)]
 }
 
 // The row of slot v, where so many are filled.
