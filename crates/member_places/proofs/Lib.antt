@@ -1,0 +1,3 @@
+pub mod PlacedLaws
+pub mod LocatedLaws
+pub mod StoringLaws
