@@ -1,0 +1,3 @@
+pub mod AddressLaws
+pub mod HeldLaws
+pub mod ObjectLaws
