@@ -1,0 +1,3 @@
+pub mod Created
+pub mod Running
+pub mod Entered
