@@ -2,7 +2,10 @@
 use Rattle.sheet_rules.specs.declared.Verdict.{Verdict}
 use Rattle.sheet_rules.specs.Answers.{numberOf, verdictNumber, verdictLine}
 use Rattle.type_rules.specs.declared.FitReply.{FitReply}
+use Rattle.machine_rules.specs.declared.RunReply.{RunReply}
+use Rattle.machine_rules.specs.Steps.{outcomeNumber}
 use Rattle.lexondar.specs.declared.FitResult.{FitResult}
+use Rattle.lexondar.specs.declared.RunResult.{RunResult}
 use Rattle.lexondar.specs.declared.VerdictResult.{VerdictResult}
 
 -- the fit question: refusal number or 0, its line or 0, and 1 for yes
@@ -14,3 +17,9 @@ fitResult (FitReply.Refused r n) = record { refusal = numberOf r; line = n; fits
 -- the verdict: the paper's number and line, 0 and 0 when accepted
 abbrev pub verdictResult : Verdict → VerdictResult
 verdictResult v = record { refusal = verdictNumber v; line = verdictLine v }
+
+-- the run: the paper's numbers of its answer; or a refusal's number and line, and the rest 0
+abbrev pub runResult : RunReply → RunResult
+runResult (RunReply.Ran a) =
+    record { refusal = 0; line = 0; outcome = outcomeNumber (a .outcome); steps = a .steps; value = a .value; objects = a .objects }
+runResult (RunReply.Refused r n) = record { refusal = numberOf r; line = n; outcome = 0; steps = 0; value = 0; objects = 0 }

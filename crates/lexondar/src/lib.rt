@@ -7,7 +7,11 @@ ghost use Rattle.type_rules.specs.FitQuestion.{fitReply};
 ghost use Rattle.type_rules.specs.Typing.{verdict};
 ghost use Rattle.sheet_rules.specs.declared.Verdict.{Verdict as VerdictGiven};
 ghost use Rattle.clear.specs.Answer.{Asked};
-ghost use Rattle.lexondar.specs.Boundary.{fitResult, verdictResult};
+ghost use Rattle.machine_rules.specs.declared.RunReply.{RunReply as RunReplied};
+ghost use Rattle.machine_rules.specs.Steps.{outcomeNumber, runReply};
+ghost use Rattle.lexondar.specs.Boundary.{fitResult, verdictResult, runResult};
+use machine_rules::Outcome;
+use machine_rules::RunReply;
 use sheet_rules::Reason;
 use sheet_rules::Verdict;
 use type_rules::FitReply;
@@ -25,6 +29,17 @@ pub struct FitResult {
 pub struct VerdictResult {
     pub refusal: u32,
     pub line: u32,
+}
+
+// The run of a sheet: a refusal's number and line, or 0, 0 and the run's outcome, steps, value and number of objects.
+#[repr(C)]
+pub struct RunResult {
+    pub refusal: u32,
+    pub line: u32,
+    pub outcome: u32,
+    pub steps: u32,
+    pub value: u32,
+    pub objects: u32,
 }
 
 // The number of a refusal.
@@ -99,4 +114,51 @@ pub extern "C" fn lexondar_verdict(text: &[u8], work: &mut [u16]) -> VerdictResu
     ensures { λ r. ⌜ Asked (verdictResult (verdict (now (text .entry)))) (verdictResult (VerdictGiven.Refused BufferTooShort 0)) (now (work .entry)) (now (work .exit)) r ⌝ }
 {
     verdict_result(verdict::ask_verdict(text, work))
+}
+
+// The number of an outcome.
+fn outcome_number(outcome: Outcome) -> u32
+    ensures { λ r. ⌜ r ≡ outcomeNumber outcome ⌝ }
+{
+    match outcome {
+        Outcome::Done => 0,
+        Outcome::Spent => 1,
+        Outcome::StoreFull => 2,
+        Outcome::StackFull => 3,
+    }
+}
+
+// The run question's reply in numbers.
+fn run_result(reply: RunReply) -> RunResult
+    ensures { λ r. ⌜ r ≡ runResult reply ⌝ }
+{
+    match reply {
+        RunReply::Ran { answer } => {
+            let outcome = answer.outcome;
+            RunResult {
+                refusal: 0,
+                line: 0,
+                outcome: outcome_number(outcome),
+                steps: answer.steps,
+                value: answer.value as u32,
+                objects: answer.objects as u32,
+            }
+        }
+        RunReply::Refused { reason, line } => RunResult {
+            refusal: number_of(reason),
+            line,
+            outcome: 0,
+            steps: 0,
+            value: 0,
+            objects: 0,
+        },
+    }
+}
+
+// The run of a text's sheet within a budget.
+#[no_mangle]
+pub extern "C" fn lexondar_run(text: &[u8], budget: u32, work: &mut [u16]) -> RunResult
+    ensures { λ r. ⌜ Asked (runResult (runReply (now (text .entry)) budget)) (runResult (RunReplied.Refused BufferTooShort 0)) (now (work .entry)) (now (work .exit)) r ⌝ }
+{
+    run_result(run_question::ask_run(text, budget, work))
 }

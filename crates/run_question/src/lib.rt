@@ -1,0 +1,39 @@
+// The run question: a text is judged, and if its sheet is accepted, it is run within a budget.
+ghost use Prim.Native.Nat.{_≤_};
+ghost use lib.ListN.{length};
+ghost use Rattle.machine_rules.specs.Steps.{runReply};
+ghost use Rattle.table.specs.Layout.{workSize};
+ghost use Rattle.clear.specs.Answer.{Answered};
+ghost use Rattle.run_question.specs.Asked.{RunAsked};
+use machine_rules::RunReply;
+use sheet_rules::Reason;
+use sheet_rules::Verdict;
+
+// The reply for a text, in a work buffer that is long enough.
+fn run_text(text: &[u8], budget: u32, work: &mut [u16]) -> RunReply
+    requires { ⌜ workSize ≤ length (now work) ⌝ }
+    ensures { λ r. ⌜ Answered (runReply (now (text .entry)) budget) (now (work .entry)) (now (work .exit)) r ⌝ }
+{
+    let judged = verdict::judge_text(text, work);
+    match judged {
+        Verdict::Accepted => RunReply::Ran {
+            answer: machine::answer_sheet(work, budget),
+        },
+        Verdict::Refused { reason, line } => RunReply::Refused { reason, line },
+    }
+}
+
+// The run of a text's sheet within a budget: its answer, or a refusal from 1 to 10 with its line.
+pub fn ask_run(text: &[u8], budget: u32, work: &mut [u16]) -> RunReply
+    ensures { λ r. ⌜ RunAsked (now (text .entry)) budget (now (work .entry)) (now (work .exit)) r ⌝ }
+{
+    if work.len() < 32768 {
+        return RunReply::Refused {
+            reason: Reason::BufferTooShort,
+            line: 0,
+        };
+    }
+    let reply = run_text(text, budget, work);
+    clear::clear(work);
+    reply
+}
