@@ -21,6 +21,20 @@ pub struct VerdictResult {
     pub line: u32,
 }
 
+/// A run's answer: a refusal's number or 0, its line or 0; of an accepted
+/// sheet the outcome, the steps taken, the value or 65,535, and the number of
+/// objects, of a refused one 0.
+#[repr(C)]
+#[derive(Clone, Copy, Debug, PartialEq, Eq)]
+pub struct RunResult {
+    pub refusal: u32,
+    pub line: u32,
+    pub outcome: u32,
+    pub steps: u32,
+    pub value: u32,
+    pub objects: u32,
+}
+
 extern "C" {
     fn lexondar_fit(
         text: *const u8,
@@ -36,6 +50,13 @@ extern "C" {
         work: *mut u16,
         work_len: usize,
     ) -> VerdictResult;
+    fn lexondar_run(
+        text: *const u8,
+        text_len: usize,
+        budget: u32,
+        work: *mut u16,
+        work_len: usize,
+    ) -> RunResult;
 }
 
 /// Whether row a of the text's sheet fits row b.
@@ -58,4 +79,18 @@ pub fn fit(text: &[u8], a: usize, b: usize, work: &mut [u16]) -> FitResult {
 pub fn verdict(text: &[u8], work: &mut [u16]) -> VerdictResult {
     // SAFETY: as above.
     unsafe { lexondar_verdict(text.as_ptr(), text.len(), work.as_mut_ptr(), work.len()) }
+}
+
+/// The run of the text's sheet, for at most so many steps.
+pub fn run(text: &[u8], budget: u32, work: &mut [u16]) -> RunResult {
+    // SAFETY: as above.
+    unsafe {
+        lexondar_run(
+            text.as_ptr(),
+            text.len(),
+            budget,
+            work.as_mut_ptr(),
+            work.len(),
+        )
+    }
 }

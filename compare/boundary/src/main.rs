@@ -1,11 +1,12 @@
 //! A small program over the library: a sheet on standard input, the answer to
 //! one question on standard output, in the second program's words.
 
-use boundary::{fit, verdict, WORK};
+use boundary::{fit, run, verdict, RunResult, WORK};
 use std::io::Read;
 use std::process::ExitCode;
 
-const USAGE: &str = "usage: boundary verdict | boundary fit A B  (a sheet on standard input)";
+const USAGE: &str = "usage: boundary verdict | boundary fit A B | boundary run BUDGET  \
+                     (a sheet on standard input)";
 
 fn main() -> ExitCode {
     let words: Vec<String> = std::env::args().skip(1).collect();
@@ -40,6 +41,24 @@ fn answer(words: &[&str], text: &[u8]) -> Option<String> {
                 number => refused(number, given.line),
             })
         }
+        ["run", budget] => {
+            let given = run(text, budget.parse().ok()?, &mut work);
+            Some(match given.refusal {
+                0 => run_lines(given),
+                number => refused(number, given.line),
+            })
+        }
         _ => None,
     }
+}
+
+fn run_lines(given: RunResult) -> String {
+    let RunResult {
+        outcome,
+        steps,
+        value,
+        objects,
+        ..
+    } = given;
+    format!("outcome={outcome}\nsteps={steps}\nvalue={value}\nobjects={objects}\n")
 }

@@ -35,6 +35,7 @@ fn a_sheet_without_its_last_byte_is_refused_at_its_last_line() {
     let short = &CLERK[..CLERK.len() - 1];
     assert_eq!(run(&["verdict"], short), "verdict=3\nline=20\n");
     assert_eq!(run(&["fit", "0", "0"], short), "verdict=3\nline=20\n");
+    assert_eq!(run(&["run", "8"], short), "verdict=3\nline=20\n");
     assert_eq!(run(&["verdict"], b""), "verdict=3\nline=1\n");
 }
 
@@ -53,4 +54,20 @@ fn the_paper_s_rows_fit_as_it_says() {
         assert_eq!(answer, format!("fit={fits}\n"), "{a} and {b}");
     }
     assert_eq!(run(&["fit", "6", "0"], ROWS), "verdict=7\nline=0\n");
+}
+
+#[test]
+fn the_clerk_runs_for_its_budget() {
+    let done = "outcome=0\nsteps=8\nvalue=0\nobjects=3\n";
+    assert_eq!(run(&["run", "8"], CLERK), done);
+    assert_eq!(run(&["run", "4294967295"], CLERK), done);
+    let spent = "outcome=1\nsteps=7\nvalue=65535\nobjects=3\n";
+    assert_eq!(run(&["run", "7"], CLERK), spent);
+}
+
+#[test]
+fn a_budget_of_more_than_32_bits_is_not_taken() {
+    for budget in ["4294967296", "-1", "many"] {
+        assert_eq!(run(&["run", budget], CLERK), "", "{budget}");
+    }
 }

@@ -111,10 +111,15 @@ impl Writer<'_> {
         }
     }
 
+    /// The first slot that may be copied or given away.
+    fn first_given(&self) -> u32 {
+        u32::from(self.own.is_some() && !self.plan.style.own_given)
+    }
+
     /// A slot whose row fits, by preference one with another row.
     fn slot_for(&mut self, asked: u16) -> Option<u32> {
         let fits = |row: u16| self.plan.fit.fits(row, asked);
-        let all: Vec<u32> = (0..self.slots.len() as u32)
+        let all: Vec<u32> = (self.first_given()..self.slots.len() as u32)
             .filter(|slot| fits(self.slots[*slot as usize]))
             .collect();
         let other: Vec<u32> = all
@@ -194,7 +199,7 @@ impl Writer<'_> {
     }
 
     fn copy(&mut self) -> Option<Filled> {
-        let slots: Vec<u32> = (0..self.slots.len() as u32).collect();
+        let slots: Vec<u32> = (self.first_given()..self.slots.len() as u32).collect();
         let slot = self.rng.try_pick(&slots)?;
         Some((line("copy", &[slot]), self.slots[slot as usize]))
     }

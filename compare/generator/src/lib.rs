@@ -8,6 +8,7 @@ mod code;
 mod damage;
 mod draft;
 mod edges;
+mod mill;
 mod mutate;
 mod plan;
 pub mod report;
@@ -44,6 +45,12 @@ pub fn sheet(seed: u64, index: u64) -> Vec<u8> {
         }
         kind => edge(&mut rng, round * 3 + kind - 17),
     }
+}
+
+/// A well-typed sheet for runs, beside the rotation: mills, whose runs are
+/// long and make much use of fields.
+pub fn mill(seed: u64, index: u64) -> Vec<u8> {
+    render(&mill::mill(&mut Rng::new(seed, index)))
 }
 
 /// A well-typed sheet: seven styles, towers, and sheets of mostly rows.

@@ -7,6 +7,7 @@ use std::process::ExitCode;
 
 const USAGE: &str = "\
 usage: generator SEED INDEX         write one sheet to standard output
+       generator mill SEED INDEX    write one mill to standard output
        generator report SEED COUNT  judge and run sheets 0 to COUNT - 1 of a
                                     seed and tell what they reach; exits with
                                     status 1 if a refusal from 2 to 10 or an
@@ -26,6 +27,10 @@ fn main() -> ExitCode {
         ["--help"] => put(USAGE.as_bytes()),
         ["report", seed, count] => match (number(seed), number(count)) {
             (Some(seed), Some(count)) => tell(seed, count),
+            _ => return wrong(),
+        },
+        ["mill", seed, index] => match (number(seed), number(index)) {
+            (Some(seed), Some(index)) => put(&generator::mill(seed, index)),
             _ => return wrong(),
         },
         [seed, index] => match (number(seed), number(index)) {

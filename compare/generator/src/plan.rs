@@ -121,7 +121,8 @@ fn kept_for_field(rng: &mut Rng, plan: &Plan, form: &mut FormPlan, field: u16) -
     }
 }
 
-fn write_sheet(rng: &mut Rng, plan: &Plan) -> Draft {
+/// Bodies and main for rows and forms that are settled.
+pub fn write_sheet(rng: &mut Rng, plan: &Plan) -> Draft {
     let mut draft = write_rows(&plan.rows);
     draft.push(line("forms", &[plan.forms.len() as u32]));
     let methods = |form: &FormPlan| {

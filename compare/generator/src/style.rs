@@ -18,6 +18,9 @@ pub struct Style {
     pub weights: [usize; 5],
     /// Whether bodies may call their own object freely.
     pub own_calls: bool,
+    /// Whether they may copy it and give it away; if not, what is called was
+    /// there before its caller, and runs end.
+    pub own_given: bool,
 }
 
 const SMALL: Style = Style {
@@ -31,6 +34,7 @@ const SMALL: Style = Style {
     main: 10,
     weights: [3, 3, 2, 2, 2],
     own_calls: false,
+    own_given: true,
 };
 
 pub const TINY: Style = Style {
@@ -105,6 +109,9 @@ pub const ROWS: Style = Style {
     main: 4,
     ..LARGE
 };
+
+/// Mills; they make their rows and forms themselves.
+pub const MILL: Style = Style { main: 32, ..SMALL };
 
 /// The styles of the rotation, in its order.
 pub const ALL: [Style; 7] = [TINY, SMALL, MIDDLE, LARGE, BUSY, LOOPING, FIELDS];

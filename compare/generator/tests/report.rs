@@ -43,6 +43,8 @@ fn the_program_writes_sheets_and_reports() {
         assert_eq!(text.stdout, generator::sheet(8, index));
         assert_eq!(text.status.code(), Some(0));
     }
+    let text = program(&["mill", "8", "3"]);
+    assert_eq!(text.stdout, generator::mill(8, 3));
     let told = program(&["report", "2", "1500"]);
     assert_eq!(told.status.code(), Some(0));
     assert_eq!(told.stdout, report(2, 1_500).lines().into_bytes());
@@ -50,12 +52,13 @@ fn the_program_writes_sheets_and_reports() {
 
 #[test]
 fn wrong_command_lines() {
-    let cases: [&[&str]; 6] = [
+    let cases: [&[&str]; 7] = [
         &[],
         &["1"],
         &["1", "x"],
         &["-1", "2"],
         &["report", "1"],
+        &["mill", "1", "x"],
         &["a", "b", "c"],
     ];
     for words in cases {
