@@ -1,0 +1,99 @@
+-- Marking leaves the state as it is; and the loop over the frames from the bottom up. Assumes nothing.
+use Prim.Native.Nat.{ℕ, suc, _+_, _<_}
+use native.Mathlib.Omega.{arith}
+use native.Mathlib.Numerals.{add-one}
+use mathlib.Core.Path.{_≡_, refl, sym, ap, _∙_, subst}
+use mathlib.Core.List.{List, _++_}
+use lib.Dec.{eqb}
+use lib.ListN.{length}
+use Rattle.sheet_rules.specs.Sheet.{Sheet}
+use Rattle.sheet_rules.specs.WellFormed.{WellFormed}
+use Rattle.authority_rules.specs.Authority.{frameHolder, holderOf, slotsIf, slotsOf}
+use Rattle.table.specs.Layout.{objectAddress}
+use Rattle.table.specs.View.{sheetIn}
+use Rattle.table.proofs.ViewLaws.{SameTable, sheetIn-same}
+use Rattle.machine_state.specs.declared.Top.{Top}
+use Rattle.machine_state.specs.Held.{slotAddress, objectsIn, slotsIn, ownFrom, topIn, belowIn}
+use Rattle.machine_state.proofs.HeldLaws.{objects-same, slots-same, top-same}
+use Rattle.marks.specs.Marked.{MarksOnly, Added}
+use Rattle.marks.proofs.MarkLaws.{added-none, added-before}
+use Rattle.authority.specs.Laid.{Stored, Slots, FrameMarked, Below, BelowMarked}
+
+-- what marking leaves as it is
+
+module _ (w w′ : List ℕ) (o : MarksOnly w w′) where
+  table : SameTable w w′
+  table i h = o .below i (omega arith)
+
+  pub marks-sheet : sheetIn w′ ≡ sheetIn w
+  marks-sheet = sheetIn-same w w′ table
+
+  pub marks-objects : (n : ℕ) → objectsIn (sheetIn w′) w′ n ≡ objectsIn (sheetIn w) w n
+  marks-objects n = ap (λ (s : Sheet). objectsIn s w′ n) marks-sheet ∙ objects-same (sheetIn w) w w′ n (λ i l u. o .below i (omega arith))
+
+  pub marks-slots-in : (f n : ℕ) → slotsIn w′ f n ≡ slotsIn w f n
+  marks-slots-in f n = slots-same w w′ table f n (λ i l u. o .below i (omega arith))
+
+  pub marks-top : (f : ℕ) → topIn w′ f ≡ topIn w f
+  marks-top f = top-same w w′ table f (λ i l u. o .below i (omega arith))
+
+  pub marks-stored : (n : ℕ) → Stored w n → Stored w′ n
+  marks-stored n s =
+      record {
+        whole = record { size = omega (arith, o .size, s .whole .size); sheet = subst WellFormed (sym marks-sheet) (s .whole .sheet) };
+        few = s .few;
+        forms = λ i h. (let c = o .below (objectAddress i) (omega arith) in let l : length ((sheetIn w′) .forms) ≡ length ((sheetIn w) .forms) = ap (λ (x : Sheet). length (x .forms)) marks-sheet in omega (arith, s .forms i h, c, l));
+      }
+
+  pub marks-slots : (f n : ℕ) → Slots w f n → Slots w′ f n
+  marks-slots f n s =
+      record { few = s .few; small = λ v h. subst (λ (x : ℕ). x < 256) (sym (o .below (slotAddress f v) (omega arith))) (s .small v h) }
+
+-- one frame more, as the rules have it
+
+held-suc : (w : List ℕ) (n f : ℕ)
+    → frameHolder (sheetIn w) (objectsIn (sheetIn w) w n) (ownFrom ((topIn w f) .own)) (holderOf (sheetIn w) (objectsIn (sheetIn w) w n) (belowIn w f))
+    ≡ holderOf (sheetIn w) (objectsIn (sheetIn w) w n) (belowIn w (suc f))
+unfolding holderOf belowIn
+held-suc w n f = refl
+
+slots-suc : (w : List ℕ) (n h f : ℕ)
+    → slotsIf (eqb (holderOf (sheetIn w) (objectsIn (sheetIn w) w n) (belowIn w (suc f))) h) (slotsIn w f ((topIn w f) .filled)) ++ slotsOf (sheetIn w) (objectsIn (sheetIn w) w n) h (belowIn w f)
+    ≡ slotsOf (sheetIn w) (objectsIn (sheetIn w) w n) h (belowIn w (suc f))
+unfolding slotsOf belowIn
+slots-suc w n h f = refl
+
+-- the loop
+
+pub below-start : (w : List ℕ) (n h : ℕ) → BelowMarked w n h 0 w 256
+unfolding holderOf slotsOf belowIn
+below-start w n h = record { holder = refl; marked = added-none w }
+
+module _ (w : List ℕ) (n h d : ℕ) (s : Stored w n) (small : d < 64) (slots : Below w d) (w₁ : List ℕ) (f r : ℕ) (b : BelowMarked w n h f w₁ r) (l : f < d) where
+  pub below-stored : Stored w₁ n
+  below-stored = marks-stored w w₁ (b .marked .only) n s
+
+  pub below-small : f < 64
+  below-small = omega arith
+
+  module _ (t : Top) (et : t ≡ topIn w₁ f) where
+    t-is : t ≡ topIn w f
+    t-is = et ∙ marks-top w w₁ (b .marked .only) f
+
+    pub below-slots : Slots w₁ f (t .filled)
+    below-slots = marks-slots w w₁ (b .marked .only) f (t .filled) (subst (λ (x : Top). Slots w f (x .filled)) (sym t-is) (slots f l))
+
+    pub below-next : (w₂ : List ℕ) (r₂ : ℕ) → FrameMarked w₁ n f (t .own) (t .filled) r h w₂ r₂ → BelowMarked w n h (f + 1) w₂ r₂
+    below-next w₂ r₂ m = subst (λ (x : ℕ). BelowMarked w n h x w₂ r₂) (sym (add-one f)) (record { holder = holder; marked = marked })
+      where
+        holder : r₂ ≡ holderOf (sheetIn w) (objectsIn (sheetIn w) w n) (belowIn w (suc f))
+        holder =
+            m .holder
+            ∙ (λ i. frameHolder (marks-sheet w w₁ (b .marked .only) i) (marks-objects w w₁ (b .marked .only) n i) (ownFrom (t-is i .own)) (b .holder i))
+            ∙ held-suc w n f
+
+        marked : Added w (slotsOf (sheetIn w) (objectsIn (sheetIn w) w n) h (belowIn w (suc f))) w₂
+        marked =
+            subst (λ (xs : List ℕ). Added w xs w₂)
+            ((λ i. slotsIf (eqb (holder i) h) (marks-slots-in w w₁ (b .marked .only) f (t-is i .filled) i) ++ slotsOf (sheetIn w) (objectsIn (sheetIn w) w n) h (belowIn w f)) ∙ slots-suc w n h f)
+            (added-before w w₁ w₂ (slotsOf (sheetIn w) (objectsIn (sheetIn w) w n) h (belowIn w f)) (slotsIf (eqb r₂ h) (slotsIn w₁ f (t .filled))) (b .marked) (m .marked))

@@ -1,0 +1,5 @@
+pub mod HolderLaws
+pub mod BelowLaws
+pub mod OwnLaws
+pub mod WrittenLaws
+pub mod ReachLaws

@@ -1,0 +1,245 @@
+-- All that a holder can reach, marked; and its authority, written. Assumes nothing.
+use Prim.Native.Nat.{ℕ, zero, suc, pred, _<_}
+use native.Mathlib.Omega.{arith}
+use native.Mathlib.Decide.{ℕ-discrete}
+use mathlib.Core.Path.{_≡_, refl, sym, ap, _∙_, subst}
+use mathlib.Core.Bool.{Bool, true, false, cond, _&&_, _||_}
+use mathlib.Core.List.{List, [], _∷_, _++_}
+use lib.Dec.{T, eqb}
+use lib.ListN.{length, getD}
+use borrow.Author.Tests.{eq-eqb, ne-eqb}
+use Rattle.lists.specs.In.{In}
+use Rattle.lists.specs.Tab.{tab}
+use Rattle.lists.proofs.InLaws.{in-getD}
+use Rattle.lists.proofs.Tests.{T→true}
+use Rattle.lists.proofs.TabLaws.{length-tab, getD-tab}
+use Rattle.sheet_rules.specs.Sheet.{Sheet}
+use Rattle.machine_rules.specs.declared.Tally.{Tally}
+use Rattle.machine_rules.specs.State.{Object, State, objectAt}
+use Rattle.machine_rules.proofs.BoundsLaws.{BoundedObject, frame-bounded, object-bounded}
+use Rattle.authority_rules.specs.Authority.{isResource, isHolder, frameHolder, holderOf, slotsIf, slotsOf, ownValues, reached, contains, holds, passing, authority}
+use Rattle.authority_rules.proofs.HoldingLaws.{resource-made}
+use Rattle.table.specs.Layout.{objectAddress}
+use Rattle.table.specs.View.{cell, sheetIn}
+use Rattle.machine_state.specs.declared.Top.{Top}
+use Rattle.machine_state.specs.Held.{keptAddress, fieldAddress, slotAddress, keptCount, fieldCount, objectIn, objectsIn, slotsIn, ownFrom, frameFrom, topIn, belowIn, stateIn}
+use Rattle.table.proofs.ViewLaws.{only-trans}
+use Rattle.machine_state.proofs.HeldLaws.{below-same, objects-count, slots-count}
+use Rattle.machine_steps.specs.Running.{Running}
+use Rattle.machine_steps.proofs.FacingLaws.{frames-few, objects-few, object-is}
+use Rattle.machine_steps.proofs.OwnLaws.{form-there}
+use Rattle.marks.specs.Marked.{MarksOnly, isMarked, MarksCleared, Added}
+use Rattle.marks.proofs.MarkLaws.{added-before}
+use Rattle.authority.specs.Laid.{Stored, Slots, FrameMarked, Below, BelowMarked, OwnSmall, isReached, begun, Written}
+use Rattle.authority.specs.Reach.{ReachMarked, AuthorityWritten}
+use Rattle.authority.proofs.BelowLaws.{marks-sheet, marks-objects, marks-slots-in, marks-top, marks-stored, marks-slots}
+use Rattle.authority.proofs.WrittenLaws.{passing-same}
+
+-- what a running state has in range
+
+below-in : (w : List ℕ) (d f : ℕ) → f < d → In (frameFrom w f (topIn w f)) (belowIn w d)
+unfolding belowIn
+below-in w zero f h = absurd (omega arith)
+below-in w (suc d) f h = go (ℕ-discrete f d) (below-in w d f)
+  where
+    go : Dec (f ≡ d) → (f < d → In (frameFrom w f (topIn w f)) (belowIn w d)) → In (frameFrom w f (topIn w f)) (frameFrom w d (topIn w d) ∷ belowIn w d)
+    go (yes e) more = In.here (ap (λ (x : ℕ). frameFrom w x (topIn w x)) e)
+    go (no n) more = In.there (more (omega arith))
+
+module _ (w : List ℕ) (t : Top) (k : Tally) (r : Running w t k) (o : ℕ) (h : o < k .objects) where
+  kept-of : (objectAt (objectsIn (sheetIn w) w (k .objects)) o) .kept ≡ tab (λ j. cell w (keptAddress o j)) (keptCount (sheetIn w) (cell w (objectAddress o)))
+  unfolding objectIn
+  kept-of = ap (λ (x : Object). x .kept) (object-is w t k r o h)
+
+  fields-of : (objectAt (objectsIn (sheetIn w) w (k .objects)) o) .fields ≡ tab (λ j. cell w (fieldAddress o j)) (fieldCount (sheetIn w) (cell w (objectAddress o)))
+  unfolding objectIn
+  fields-of = ap (λ (x : Object). x .fields) (object-is w t k r o h)
+
+module _ (w : List ℕ) (t : Top) (k : Tally) (r : Running w t k) where
+  pub run-stored : Stored w (k .objects)
+  run-stored = record { whole = r .whole; few = objects-few w t k r; forms = λ o h. form-there w t k r o h }
+
+  frame-slots : (f : ℕ) (x : Top) → In (frameFrom w f x) (frameFrom w (pred (k .frames)) t ∷ belowIn w (pred (k .frames))) → Slots w f (x .filled)
+  frame-slots f x i =
+      let b = frame-bounded (sheetIn w) (r .whole .sheet) (stateIn (sheetIn w) w t k) (r .sound) (frameFrom w f x) i in
+      record {
+        few = omega (arith, b .slots, slots-count w f (x .filled));
+        small = λ v h.
+            (let there : getD (slotsIn w f (x .filled)) v 0 ≡ cell w (slotAddress f v) = getD-tab (λ j. cell w (slotAddress f j)) (x .filled) v 0 h in
+            let made = b .values (getD (slotsIn w f (x .filled)) v 0) (in-getD (slotsIn w f (x .filled)) v 0 (omega (arith, slots-count w f (x .filled)))) in
+            omega (arith, there, made, objects-count (sheetIn w) w (k .objects), objects-few w t k r));
+      }
+
+  pub run-top : Slots w (pred (k .frames)) (t .filled)
+  run-top = frame-slots (pred (k .frames)) t (In.here refl)
+
+  pub run-below : Below w (pred (k .frames))
+  run-below f h = frame-slots f (topIn w f) (In.there (below-in w (pred (k .frames)) f h))
+
+  pub run-own : (o : ℕ) → o < k .objects → OwnSmall w o
+  run-own o h =
+      record {
+        kept = λ i l. value (λ (x : Object). x .kept) (λ j. cell w (keptAddress o j)) (keptCount (sheetIn w) (cell w (objectAddress o))) kept-are (λ b q. bounds .keptValues b q) i l;
+        fields = λ i l. value (λ (x : Object). x .fields) (λ j. cell w (fieldAddress o j)) (fieldCount (sheetIn w) (cell w (objectAddress o))) fields-are (λ b q. bounds .fieldValues b q) i l;
+      }
+    where
+      bounds : BoundedObject (sheetIn w) (objectsIn (sheetIn w) w (k .objects)) (objectAt (objectsIn (sheetIn w) w (k .objects)) o)
+      bounds = object-bounded (sheetIn w) (r .whole .sheet) (stateIn (sheetIn w) w t k) (r .sound) o (omega (arith, objects-count (sheetIn w) w (k .objects)))
+
+      kept-are : (objectAt (objectsIn (sheetIn w) w (k .objects)) o) .kept ≡ tab (λ j. cell w (keptAddress o j)) (keptCount (sheetIn w) (cell w (objectAddress o)))
+      kept-are = kept-of w t k r o h
+
+      fields-are : (objectAt (objectsIn (sheetIn w) w (k .objects)) o) .fields ≡ tab (λ j. cell w (fieldAddress o j)) (fieldCount (sheetIn w) (cell w (objectAddress o)))
+      fields-are = fields-of w t k r o h
+
+      value : (part : Object → List ℕ) (g : ℕ → ℕ) (m : ℕ) → part (objectAt (objectsIn (sheetIn w) w (k .objects)) o) ≡ tab g m
+          → ((b : ℕ) → In b (part (objectAt (objectsIn (sheetIn w) w (k .objects)) o)) → b < length (objectsIn (sheetIn w) w (k .objects))) → (i : ℕ) → i < m → g i < 256
+      value part g m e all i l =
+          let there : getD (tab g m) i 0 ≡ g i = getD-tab g m i 0 l in
+          let made = all (getD (tab g m) i 0) (subst (In (getD (tab g m) i 0)) (sym e) (in-getD (tab g m) i 0 (omega (arith, length-tab g m)))) in
+          omega (arith, there, made, objects-count (sheetIn w) w (k .objects), objects-few w t k r)
+
+-- WHAT IS REACHED
+
+-- the frames' slots, the top frame's with those below
+frames-slots : (w : List ℕ) (t : Top) (k : Tally) (h r : ℕ) → r ≡ holderOf (sheetIn w) (objectsIn (sheetIn w) w (k .objects)) (frameFrom w (pred (k .frames)) t ∷ belowIn w (pred (k .frames)))
+    → slotsIf (eqb r h) (slotsIn w (pred (k .frames)) (t .filled)) ++ slotsOf (sheetIn w) (objectsIn (sheetIn w) w (k .objects)) h (belowIn w (pred (k .frames)))
+    ≡ slotsOf (sheetIn w) (objectsIn (sheetIn w) w (k .objects)) h (frameFrom w (pred (k .frames)) t ∷ belowIn w (pred (k .frames)))
+unfolding slotsOf
+frames-slots w t k h r e = ap (λ (x : ℕ). slotsIf (eqb x h) (slotsIn w (pred (k .frames)) (t .filled)) ++ slotsOf (sheetIn w) (objectsIn (sheetIn w) w (k .objects)) h (belowIn w (pred (k .frames)))) e
+
+top-holder : (w : List ℕ) (t : Top) (k : Tally)
+    → frameHolder (sheetIn w) (objectsIn (sheetIn w) w (k .objects)) (ownFrom (t .own)) (holderOf (sheetIn w) (objectsIn (sheetIn w) w (k .objects)) (belowIn w (pred (k .frames))))
+    ≡ holderOf (sheetIn w) (objectsIn (sheetIn w) w (k .objects)) (frameFrom w (pred (k .frames)) t ∷ belowIn w (pred (k .frames)))
+unfolding holderOf
+top-holder w t k = refl
+
+reached-main : (s : Sheet) (σ : State) (h : ℕ) → h ≡ 256 → reached s σ h ≡ slotsOf s (σ .objects) h (σ .top ∷ σ .below)
+unfolding reached
+reached-main s σ h e =
+    ap (λ (b : Bool). cond b (slotsOf s (σ .objects) h (σ .top ∷ σ .below)) (cond (isResource s (σ .objects) h) (ownValues h (objectAt (σ .objects) h) ++ slotsOf s (σ .objects) h (σ .top ∷ σ .below)) [])) (eq-eqb h 256 e)
+
+reached-object : (s : Sheet) (σ : State) (h : ℕ) → (h ≡ 256 → ⊥) → isResource s (σ .objects) h ≡ true → reached s σ h ≡ ownValues h (objectAt (σ .objects) h) ++ slotsOf s (σ .objects) h (σ .top ∷ σ .below)
+unfolding reached
+reached-object s σ h d e =
+    (λ i. cond (ne-eqb h 256 d i) (slotsOf s (σ .objects) h (σ .top ∷ σ .below)) (cond (e i) (ownValues h (objectAt (σ .objects) h) ++ slotsOf s (σ .objects) h (σ .top ∷ σ .below)) []))
+
+module _ (w : List ℕ) (t : Top) (k : Tally) (r : Running w t k) (h d : ℕ) (ed : d ≡ pred (k .frames)) (w₁ : List ℕ) (c : MarksCleared w w₁) where
+  d-small : d < 64
+  d-small = omega (arith, frames-few w t k r, r .ending .frames)
+
+  pub reach-below : Stored w₁ (k .objects) × (d < 64) × Below w₁ d
+  reach-below = (
+    marks-stored w w₁ (c .only) (k .objects) (run-stored w t k r),
+    d-small,
+    λ f l. subst (λ (x : Top). Slots w₁ f (x .filled)) (sym (marks-top w w₁ (c .only) f)) (marks-slots w w₁ (c .only) f ((topIn w f) .filled) (run-below w t k r f (omega arith))),
+  )
+
+  module _ (w₂ : List ℕ) (b : ℕ) (m : BelowMarked w₁ (k .objects) h d w₂ b) where
+    only₂ : MarksOnly w w₂
+    only₂ = only-trans (c .only) (m .marked .only)
+
+    pub reach-frame : Stored w₂ (k .objects) × (d < 64) × Slots w₂ d (t .filled)
+    reach-frame = (
+      marks-stored w w₂ only₂ (k .objects) (run-stored w t k r),
+      d-small,
+      marks-slots w w₂ only₂ d (t .filled) (subst (λ (x : ℕ). Slots w x (t .filled)) (sym ed) (run-top w t k r)),
+    )
+
+    below-are : belowIn w₁ d ≡ belowIn w (pred (k .frames))
+    below-are = below-same w w₁ (λ i l. c .only .below i (omega arith)) d (omega (arith, d-small)) (λ i l u. c .only .below i (omega (arith, d-small))) ∙ ap (belowIn w) ed
+
+    b-is : b ≡ holderOf (sheetIn w) (objectsIn (sheetIn w) w (k .objects)) (belowIn w (pred (k .frames)))
+    b-is = m .holder ∙ (λ i. holderOf (marks-sheet w w₁ (c .only) i) (marks-objects w w₁ (c .only) (k .objects) i) (below-are i))
+
+    module _ (w₃ : List ℕ) (q : ℕ) (f : FrameMarked w₂ (k .objects) d (t .own) (t .filled) b h w₃ q) where
+      only₃ : MarksOnly w w₃
+      only₃ = only-trans only₂ (f .marked .only)
+
+      q-is : q ≡ holderOf (sheetIn w) (objectsIn (sheetIn w) w (k .objects)) (frameFrom w (pred (k .frames)) t ∷ belowIn w (pred (k .frames)))
+      q-is =
+          f .holder
+          ∙ (λ i. frameHolder (marks-sheet w w₂ only₂ i) (marks-objects w w₂ only₂ (k .objects) i) (ownFrom (t .own)) (b-is i))
+          ∙ top-holder w t k
+
+      slots-added : Added w₁ (slotsOf (sheetIn w) (objectsIn (sheetIn w) w (k .objects)) h (frameFrom w (pred (k .frames)) t ∷ belowIn w (pred (k .frames)))) w₃
+      slots-added =
+          subst (λ (xs : List ℕ). Added w₁ xs w₃)
+          ((λ i. slotsIf (eqb q h) ((marks-slots-in w w₂ only₂ d (t .filled) ∙ ap (λ (x : ℕ). slotsIn w x (t .filled)) ed) i) ++ slotsOf (marks-sheet w w₁ (c .only) i) (marks-objects w w₁ (c .only) (k .objects) i) h (below-are i))
+          ∙ frames-slots w t k h q q-is)
+          (added-before w₁ w₂ w₃ (slotsOf (sheetIn w₁) (objectsIn (sheetIn w₁) w₁ (k .objects)) h (belowIn w₁ d)) (slotsIf (eqb q h) (slotsIn w₂ d (t .filled))) (m .marked) (f .marked))
+
+      told : (xs : List ℕ) (w₄ : List ℕ) → Added w₁ xs w₄ → (x : ℕ) → x < 256 → isMarked w₄ x ≡ contains xs x
+      told xs w₄ a x l = a .told x l ∙ ap (λ (y : Bool). y || contains xs x) (c .told x l)
+
+      pub reach-main : h ≡ 256 → ReachMarked w t k h w₃
+      reach-main e =
+          record {
+            only = only₃;
+            told = λ x l.
+                told (slotsOf (sheetIn w) (objectsIn (sheetIn w) w (k .objects)) h (frameFrom w (pred (k .frames)) t ∷ belowIn w (pred (k .frames)))) w₃ slots-added x l
+                ∙ ap (λ (xs : List ℕ). contains xs x) (sym (reached-main (sheetIn w) (stateIn (sheetIn w) w t k) h e));
+          }
+
+      module _ (holder : T (isHolder (sheetIn w) (stateIn (sheetIn w) w t k) h)) (other : h ≡ 256 → ⊥) where
+        resource : T (isResource (sheetIn w) (objectsIn (sheetIn w) w (k .objects)) h)
+        resource = subst (λ (x : Bool). T (x || isResource (sheetIn w) (objectsIn (sheetIn w) w (k .objects)) h)) (ne-eqb h 256 other) holder
+
+        made : h < k .objects
+        made = omega (arith, resource-made (sheetIn w) (objectsIn (sheetIn w) w (k .objects)) h resource, objects-count (sheetIn w) w (k .objects))
+
+        pub reach-own : Stored w₃ (k .objects) × (h < k .objects) × OwnSmall w₃ h
+        reach-own = (
+          marks-stored w w₃ only₃ (k .objects) (run-stored w t k r),
+          made,
+          record {
+            kept = λ i l. subst (λ (x : ℕ). x < 256) (sym (only₃ .below (keptAddress h i) (omega arith)))
+                (run-own w t k r h made .kept i (subst (λ (x : ℕ). i < x) (λ j. keptCount (marks-sheet w w₃ only₃ j) (only₃ .below (objectAddress h) (omega arith) j)) l));
+            fields = λ i l. subst (λ (x : ℕ). x < 256) (sym (only₃ .below (fieldAddress h i) (omega arith)))
+                (run-own w t k r h made .fields i (subst (λ (x : ℕ). i < x) (λ j. fieldCount (marks-sheet w w₃ only₃ j) (only₃ .below (objectAddress h) (omega arith) j)) l));
+          },
+        )
+
+        pub reach-object : (w₄ : List ℕ) → Added w₃ (ownValues h (objectAt (objectsIn (sheetIn w₃) w₃ (k .objects)) h)) w₄ → ReachMarked w t k h w₄
+        reach-object w₄ a =
+            let all : Added w₁ (ownValues h (objectAt (objectsIn (sheetIn w₃) w₃ (k .objects)) h) ++ slotsOf (sheetIn w) (objectsIn (sheetIn w) w (k .objects)) h (frameFrom w (pred (k .frames)) t ∷ belowIn w (pred (k .frames)))) w₄ =
+            added-before w₁ w₃ w₄ (slotsOf (sheetIn w) (objectsIn (sheetIn w) w (k .objects)) h (frameFrom w (pred (k .frames)) t ∷ belowIn w (pred (k .frames)))) (ownValues h (objectAt (objectsIn (sheetIn w₃) w₃ (k .objects)) h)) slots-added a in
+            record {
+              only = only-trans only₃ (a .only);
+              told = λ x l.
+                  told (ownValues h (objectAt (objectsIn (sheetIn w₃) w₃ (k .objects)) h) ++ slotsOf (sheetIn w) (objectsIn (sheetIn w) w (k .objects)) h (frameFrom w (pred (k .frames)) t ∷ belowIn w (pred (k .frames)))) w₄ all x l
+                  ∙ ap (λ (os : List Object). contains (ownValues h (objectAt os h) ++ slotsOf (sheetIn w) (objectsIn (sheetIn w) w (k .objects)) h (frameFrom w (pred (k .frames)) t ∷ belowIn w (pred (k .frames)))) x) (marks-objects w w₃ only₃ (k .objects))
+                  ∙ ap (λ (xs : List ℕ). contains xs x) (sym (reached-object (sheetIn w) (stateIn (sheetIn w) w t k) h other (T→true (isResource (sheetIn w) (objectsIn (sheetIn w) w (k .objects)) h) resource)));
+            }
+
+-- WHAT IS WRITTEN
+
+module _ (w : List ℕ) (t : Top) (k : Tally) (r : Running w t k) (h : ℕ) (w′ : List ℕ) (m : ReachMarked w t k h w′) where
+  pub written-stored : Stored w′ (k .objects)
+  written-stored = marks-stored w w′ (m .only) (k .objects) (run-stored w t k r)
+
+  and-comm : (p q : Bool) → (p && q) ≡ (q && p)
+  and-comm true true = refl
+  and-comm true false = refl
+  and-comm false true = refl
+  and-comm false false = refl
+
+  same-test : (b : ℕ) → b < k .objects → isReached w′ (k .objects) b ≡ holds (sheetIn w) (stateIn (sheetIn w) w t k) h b
+  unfolding holds
+  same-test b l =
+      (λ i. m .told b (omega (arith, objects-few w t k r)) i && isResource (marks-sheet w w′ (m .only) i) (marks-objects w w′ (m .only) (k .objects) i) b)
+      ∙ and-comm (contains (reached (sheetIn w) (stateIn (sheetIn w) w t k) h) b) (isResource (sheetIn w) (objectsIn (sheetIn w) w (k .objects)) b)
+
+  same-list : passing (isReached w′ (k .objects)) 0 (k .objects) ≡ authority (sheetIn w) (stateIn (sheetIn w) w t k) h
+  unfolding authority
+  same-list =
+      passing-same (isReached w′ (k .objects)) (holds (sheetIn w) (stateIn (sheetIn w) w t k) h) 0 (k .objects) (λ b l u. same-test b (omega arith))
+      ∙ ap (passing (holds (sheetIn w) (stateIn (sheetIn w) w t k) h) 0) (sym (objects-count (sheetIn w) w (k .objects)))
+
+  pub authority-written : (result result′ : List ℕ) (c : ℕ) → Written (isReached w′ (k .objects)) (k .objects) result result′ c → AuthorityWritten w t k h w′ result result′ c
+  authority-written result result′ c x =
+      record {
+        only = m .only;
+        counted = x .counted ∙ ap length same-list;
+        left = x .left ∙ ap (λ (ys : List ℕ). begun ys result) same-list;
+      }

@@ -1,0 +1,69 @@
+-- What the authority's code stands on, in the work buffer, and what it promises of a frame. Stands on the rules' authority, on the
+-- state that the buffer holds, and on marks.
+use Prim.Native.Nat.{ℕ, suc, _+_, _≤_, _<_}
+use mathlib.Core.Path.{_≡_}
+use mathlib.Core.Bool.{Bool, cond, _&&_}
+use mathlib.Core.List.{List, _++_}
+use lib.Dec.{eqb}
+use lib.ListN.{length, set, drop}
+use Rattle.sheet_rules.specs.declared.Member.{Member}
+use Rattle.sheet_rules.specs.declared.Member.the-variants.{Method, Field}
+use Rattle.authority_rules.specs.Authority.{isResource, frameHolder, slotsIf, holderOf, slotsOf, passing}
+use Rattle.table.specs.Layout.{objectAddress}
+use Rattle.table.specs.View.{cell, sheetIn}
+use Rattle.table.specs.Whole.{Whole}
+use Rattle.machine_state.specs.Held.{keptAddress, fieldAddress, slotAddress, keptCount, fieldCount, objectsIn, slotsIn, ownFrom, topIn, belowIn}
+use Rattle.marks.specs.Marked.{isMarked, Added}
+
+-- n objects, of forms that are there
+pub record Stored (w : List ℕ) (n : ℕ) : Type 0 where
+  pub whole : Whole w
+  pub few : n ≤ 256
+  pub forms : (o : ℕ) → o < n → cell w (objectAddress o) < length ((sheetIn w) .forms)
+
+-- the first n slots of frame f are in range, and so is what they hold
+pub record Slots (w : List ℕ) (f n : ℕ) : Type 0 where
+  pub few : n ≤ 42
+  pub small : (v : ℕ) → v < n → cell w (slotAddress f v) < 256
+
+-- whose frame f is, and its filled slots marked if it is h's
+pub record FrameMarked (w : List ℕ) (n f own filled beneath h : ℕ) (w′ : List ℕ) (r : ℕ) : Type 0 where
+  pub holder : r ≡ frameHolder (sheetIn w) (objectsIn (sheetIn w) w n) (ownFrom own) beneath
+  pub marked : Added w (slotsIf (eqb r h) (slotsIn w f filled)) w′
+
+-- the filled slots of the first d frames are in range, and so is what they hold
+abbrev pub Below : List ℕ → ℕ → Type 0
+Below w d = (f : ℕ) → f < d → Slots w f ((topIn w f) .filled)
+
+-- whose the last of the first d frames is, and the filled slots of h's frames among them marked
+pub record BelowMarked (w : List ℕ) (n h d : ℕ) (w′ : List ℕ) (r : ℕ) : Type 0 where
+  pub holder : r ≡ holderOf (sheetIn w) (objectsIn (sheetIn w) w n) (belowIn w d)
+  pub marked : Added w (slotsOf (sheetIn w) (objectsIn (sheetIn w) w n) h (belowIn w d)) w′
+
+-- the fields up to a member, where so many come before it
+abbrev pub fieldsWith : Member → ℕ → ℕ
+fieldsWith (Method m a r) i = i
+fieldsWith (Field m r) i = i + 1
+
+-- what object o keeps and what its fields hold is in range
+pub record OwnSmall (w : List ℕ) (o : ℕ) : Type 0 where
+  pub kept : (i : ℕ) → i < keptCount (sheetIn w) (cell w (objectAddress o)) → cell w (keptAddress o i) < 256
+  pub fields : (i : ℕ) → i < fieldCount (sheetIn w) (cell w (objectAddress o)) → cell w (fieldAddress o i) < 256
+
+-- b is marked and a resource object, among n objects
+abbrev pub isReached : List ℕ → ℕ → ℕ → Bool
+isReached w n b = isMarked w b && isResource (sheetIn w) (objectsIn (sheetIn w) w n) b
+
+-- a result buffer that begins with some numbers; later places keep their content
+abbrev pub begun : List ℕ → List ℕ → List ℕ
+begun xs result = xs ++ drop (length xs) result
+
+-- b written after the numbers that a result buffer begins with, if a test says so; r tells how many there are then
+pub record Kept (test : Bool) (b count : ℕ) (result result′ : List ℕ) (r : ℕ) : Type 0 where
+  pub counted : r ≡ cond test (suc count) count
+  pub left : result′ ≡ cond test (set result count b) result
+
+-- the numbers below n that pass a test, ascending, at the result buffer's start; r tells how many they are
+pub record Written (test : ℕ → Bool) (n : ℕ) (result result′ : List ℕ) (r : ℕ) : Type 0 where
+  pub counted : r ≡ length (passing test 0 n)
+  pub left : result′ ≡ begun (passing test 0 n) result

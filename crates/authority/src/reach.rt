@@ -1,0 +1,46 @@
+// A holder's authority in the state that a run left: all that it can reach is marked, and the resources among it are written.
+ghost use Prim.Native.Nat.{_≤_};
+ghost use lib.Dec.{T};
+ghost use lib.ListN.{length};
+ghost use Rattle.authority_rules.specs.Authority.{isHolder};
+ghost use Rattle.table.specs.View.{sheetIn};
+ghost use Rattle.machine_state.specs.Held.{stateIn};
+ghost use Rattle.machine_steps.specs.Running.{Running};
+ghost use Rattle.authority.specs.Reach.{ReachMarked, AuthorityWritten};
+use crate::collect::write_reached;
+use crate::mark_below;
+use crate::mark_frame;
+use crate::own::mark_own;
+use machine_rules::Tally;
+use machine_state::Top;
+
+// Marks what holder h can reach: what is its own, and the filled slots of its frames.
+fn mark_reached(work: &mut [u16], top: Top, tally: Tally, h: usize)
+    requires { ⌜ Running (now work) top tally × T (isHolder (sheetIn (now work)) (stateIn (sheetIn (now work)) (now work) top tally) h) ⌝ }
+    ensures { λ r. ⌜ ReachMarked (now (work .entry)) top tally h (now (work .exit)) ⌝ }
+{
+    let n = tally.objects;
+    let d = tally.frames - 1;
+    marks::clear_marks(work);
+    let beneath = mark_below(work, n, d, h);
+    mark_frame(work, n, d, top.own, top.filled, beneath, h);
+    if h == 256 {
+        return;
+    }
+    mark_own(work, n, h);
+}
+
+// Writes holder h's authority, ascending; answers how many it has.
+pub fn write_authority(
+    work: &mut [u16],
+    top: Top,
+    tally: Tally,
+    h: usize,
+    result: &mut [u16],
+) -> usize
+    requires { ⌜ Running (now work) top tally × T (isHolder (sheetIn (now work)) (stateIn (sheetIn (now work)) (now work) top tally) h) × (256 ≤ length (now result)) ⌝ }
+    ensures { λ r. ⌜ AuthorityWritten (now (work .entry)) top tally h (now (work .exit)) (now (result .entry)) (now (result .exit)) r ⌝ }
+{
+    mark_reached(work, top, tally, h);
+    write_reached(work, tally.objects, result)
+}
