@@ -17,26 +17,21 @@ use Rattle.table.specs.Layout.{objectAddress, stateEnd, workSize}
 use Rattle.table.specs.View.{cell, memberIn, membersIn, sheetIn}
 use Rattle.table.specs.Whole.{Whole}
 use Rattle.table.proofs.SheetLaws.{member-row-small, member-small, member-there}
+use Rattle.member_places.specs.Placed.{fieldsAfter}
 use Rattle.machine_state.specs.Held.{keptAddress, fieldAddress, keptCount, fieldCount, objectIn, objectsIn}
 use Rattle.marks.specs.Marked.{Added, numbersFrom, Small}
 use Rattle.marks.proofs.MarkLaws.{added-after}
-use Rattle.authority.specs.Laid.{Stored, fieldsWith, OwnSmall}
+use Rattle.authority.specs.Laid.{Stored, OwnSmall}
 
 -- HOW MANY FIELDS
 
-fields-snoc : (ms : List Member) (m : Member) → length (fieldRows (ms ++ (m ∷ []))) ≡ fieldsWith m (length (fieldRows ms))
+fields-snoc : (ms : List Member) (m : Member) → length (fieldRows (ms ++ (m ∷ []))) ≡ fieldsAfter m (length (fieldRows ms))
 unfolding fieldRows
 fields-snoc [] (Method k a r) = refl
 fields-snoc [] (Field k r) = refl
 fields-snoc (Method k a r ∷ ms) m = fields-snoc ms m
 fields-snoc (Field k r ∷ ms) (Method j a q) = ap suc (fields-snoc ms (Method j a q))
 fields-snoc (Field k r ∷ ms) (Field j q) = let e = fields-snoc ms (Field j q) in omega arith
-
-fields-few : (ms : List Member) → length (fieldRows ms) ≤ length ms
-unfolding fieldRows
-fields-few [] = omega arith
-fields-few (Method k a r ∷ ms) = let h = fields-few ms in omega arith
-fields-few (Field k r ∷ ms) = let h = fields-few ms in omega arith
 
 -- the loop over a row's members has so many fields in hand
 pub record Counting (w : List ℕ) (row fields j : ℕ) : Type 0 where
@@ -47,17 +42,17 @@ pub counting-start : (w : List ℕ) (row : ℕ) → Counting w row 0 0
 unfolding tab fieldRows
 counting-start w row = record { counted = refl; few = omega arith }
 
-pub counting-next : (w : List ℕ) (row fields j : ℕ) → Counting w row fields j → (m : Member) → m ≡ memberIn w row j → (r : ℕ) → r ≡ fieldsWith m fields → Counting w row r (j + 1)
+pub counting-next : (w : List ℕ) (row fields j : ℕ) → Counting w row fields j → (m : Member) → m ≡ memberIn w row j → (r : ℕ) → r ≡ fieldsAfter m fields → Counting w row r (j + 1)
 counting-next w row fields j c m em r er =
     record {
       counted =
           er
-          ∙ (λ i. fieldsWith (em i) (c .counted i))
+          ∙ (λ i. fieldsAfter (em i) (c .counted i))
           ∙ sym (ap (λ (n : ℕ). length (fieldRows (membersIn w row n))) (add-one j) ∙ ap (λ (xs : List Member). length (fieldRows xs)) (tab-suc (memberIn w row) j) ∙ fields-snoc (membersIn w row j) (memberIn w row j));
       few = few m er;
     }
   where
-    few : (x : Member) → r ≡ fieldsWith x fields → r ≤ j + 1
+    few : (x : Member) → r ≡ fieldsAfter x fields → r ≤ j + 1
     few (Method k a q) e = omega (arith, c .few)
     few (Field k q) e = omega (arith, c .few)
 

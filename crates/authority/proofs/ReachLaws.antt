@@ -3,7 +3,7 @@ use Prim.Native.Nat.{ℕ, zero, suc, pred, _<_}
 use native.Mathlib.Omega.{arith}
 use native.Mathlib.Decide.{ℕ-discrete}
 use mathlib.Core.Path.{_≡_, refl, sym, ap, _∙_, subst}
-use mathlib.Core.Bool.{Bool, true, false, cond, _&&_, _||_}
+use mathlib.Core.Bool.{Bool, true, cond, _&&_, _||_, and-comm}
 use mathlib.Core.List.{List, [], _∷_, _++_}
 use lib.Dec.{T, eqb}
 use lib.ListN.{length, getD}
@@ -217,12 +217,6 @@ module _ (w : List ℕ) (t : Top) (k : Tally) (r : Running w t k) (h d : ℕ) (e
 module _ (w : List ℕ) (t : Top) (k : Tally) (r : Running w t k) (h : ℕ) (w′ : List ℕ) (m : ReachMarked w t k h w′) where
   pub written-stored : Stored w′ (k .objects)
   written-stored = marks-stored w w′ (m .only) (k .objects) (run-stored w t k r)
-
-  and-comm : (p q : Bool) → (p && q) ≡ (q && p)
-  and-comm true true = refl
-  and-comm true false = refl
-  and-comm false true = refl
-  and-comm false false = refl
 
   same-test : (b : ℕ) → b < k .objects → isReached w′ (k .objects) b ≡ holds (sheetIn w) (stateIn (sheetIn w) w t k) h b
   unfolding holds

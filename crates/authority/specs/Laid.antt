@@ -1,13 +1,11 @@
 -- What the authority's code stands on, in the work buffer, and what it promises of a frame. Stands on the rules' authority, on the
 -- state that the buffer holds, and on marks.
-use Prim.Native.Nat.{ℕ, suc, _+_, _≤_, _<_}
+use Prim.Native.Nat.{ℕ, suc, _≤_, _<_}
 use mathlib.Core.Path.{_≡_}
 use mathlib.Core.Bool.{Bool, cond, _&&_}
 use mathlib.Core.List.{List, _++_}
 use lib.Dec.{eqb}
 use lib.ListN.{length, set, drop}
-use Rattle.sheet_rules.specs.declared.Member.{Member}
-use Rattle.sheet_rules.specs.declared.Member.the-variants.{Method, Field}
 use Rattle.authority_rules.specs.Authority.{isResource, frameHolder, slotsIf, holderOf, slotsOf, passing}
 use Rattle.table.specs.Layout.{objectAddress}
 use Rattle.table.specs.View.{cell, sheetIn}
@@ -39,11 +37,6 @@ Below w d = (f : ℕ) → f < d → Slots w f ((topIn w f) .filled)
 pub record BelowMarked (w : List ℕ) (n h d : ℕ) (w′ : List ℕ) (r : ℕ) : Type 0 where
   pub holder : r ≡ holderOf (sheetIn w) (objectsIn (sheetIn w) w n) (belowIn w d)
   pub marked : Added w (slotsOf (sheetIn w) (objectsIn (sheetIn w) w n) h (belowIn w d)) w′
-
--- the fields up to a member, where so many come before it
-abbrev pub fieldsWith : Member → ℕ → ℕ
-fieldsWith (Method m a r) i = i
-fieldsWith (Field m r) i = i + 1
 
 -- what object o keeps and what its fields hold is in range
 pub record OwnSmall (w : List ℕ) (o : ℕ) : Type 0 where

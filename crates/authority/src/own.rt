@@ -6,9 +6,10 @@ ghost use Rattle.authority_rules.specs.Authority.{ownValues};
 ghost use Rattle.machine_rules.specs.State.{objectAt};
 ghost use Rattle.table.specs.View.{sheetIn};
 ghost use Rattle.table.specs.Whole.{Whole};
+ghost use Rattle.member_places.specs.Placed.{fieldsAfter};
 ghost use Rattle.machine_state.specs.Held.{objectsIn, fieldCount};
 ghost use Rattle.marks.specs.Marked.{Added};
-ghost use Rattle.authority.specs.Laid.{Stored, fieldsWith, OwnSmall};
+ghost use Rattle.authority.specs.Laid.{Stored, OwnSmall};
 use machine_state::form_of;
 use marks::mark;
 use marks::mark_all;
@@ -18,7 +19,7 @@ use table::rows::wide;
 // The fields up to a member, where so many come before it.
 fn fields_with(m: Member, fields: usize) -> usize
     requires { ⌜ fields < 8 ⌝ }
-    ensures { λ r. ⌜ r ≡ fieldsWith m fields ⌝ }
+    ensures { λ r. ⌜ r ≡ fieldsAfter m fields ⌝ }
 {
     match m {
         Member::Method { .. } => fields,

@@ -3,7 +3,7 @@ use Prim.Native.Nat.{ℕ, suc, pred, _+_, _-_, _≤_, _<_}
 use native.Mathlib.Omega.{arith}
 use mathlib.Core.Path.{_≡_, refl, sym, ap, _∙_, subst}
 use mathlib.Core.Bool.{false}
-use mathlib.Core.List.{List, [], _∷_}
+use mathlib.Core.List.{List}
 use lib.ListN.{length}
 use Rattle.sheet_rules.specs.Sheet.{Instr, new, call, get, put, copy}
 use Rattle.machine_rules.specs.declared.Tally.{Tally}
@@ -17,19 +17,11 @@ use Rattle.table.specs.Told.{newSlots, instrTold}
 use Rattle.table.specs.View.{instrIn, instrsIn, sheetIn}
 use Rattle.machine_state.specs.declared.Top.{Top}
 use Rattle.machine_state.specs.Held.{slotsIn, frameFrom, topIn, belowIn, stateIn}
-use Rattle.machine_state.proofs.HeldLaws.{code-next, code-end, objects-count}
+use Rattle.machine_state.proofs.HeldLaws.{code-next, code-end, below-none, below-next, objects-count}
 use Rattle.machine_steps.specs.Running.{Running, Facing, Took}
 use Rattle.machine_steps.proofs.FacingLaws.{frames-are, code-is}
 use Rattle.machine.specs.declared.Move.{Move}
 use Rattle.machine.specs.Runs.{Tried, Moved}
-
-below-none : (w : List ℕ) (n : ℕ) → n ≡ 0 → belowIn w n ≡ []
-unfolding belowIn
-below-none w n e = ap (belowIn w) e
-
-below-next : (w : List ℕ) (n d : ℕ) → n ≡ suc d → belowIn w n ≡ frameFrom w d (topIn w d) ∷ belowIn w d
-unfolding belowIn
-below-next w n d e = ap (belowIn w) e
 
 module _ (w : List ℕ) (t : Top) (k : Tally) where
   -- the instruction that was read is the one that the frame faces

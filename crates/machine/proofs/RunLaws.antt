@@ -6,7 +6,7 @@ use mathlib.Core.List.{List, []}
 use mathlib.Core.Option.{none}
 use mathlib.Core.Logic.{_⊎_, inl, inr}
 use denote.Enum.Declared.{tagOf}
-use lib.ListN.{length, getD}
+use lib.ListN.{length}
 use Rattle.lists.specs.Tab.{tab}
 use Rattle.sheet_rules.specs.Sheet.{Sheet, Instr}
 use Rattle.sheet_rules.specs.WellFormed.{WellFormed}
@@ -16,7 +16,6 @@ use Rattle.machine_rules.specs.declared.Tally.{Tally}
 use Rattle.machine_rules.specs.State.{start, lastOf}
 use Rattle.machine_rules.specs.Steps.{startTally, runFrom, run}
 use Rattle.machine_rules.specs.Sound.{Sound}
-use Rattle.machine_rules.proofs.FoundLaws.{lastOf-at}
 use Rattle.machine_rules.proofs.SoundLaws.{start-sound, step-sound}
 use Rattle.machine_rules.proofs.TakenLaws.{run-step}
 use Rattle.table.specs.Layout.{mainStartAt, mainCountAt, objectAddress, stateEnd, workSize}
@@ -29,9 +28,8 @@ use Rattle.member_places.specs.Located.{PlacesFilled}
 use Rattle.member_places.proofs.LocatedLaws.{places-sheet, located-same}
 use Rattle.machine_state.specs.declared.Top.{Top}
 use Rattle.machine_state.specs.Held.{slotAddress, slotsIn, belowIn, stateIn}
-use Rattle.machine_state.proofs.HeldLaws.{slots-count}
 use Rattle.machine_steps.specs.Running.{Running, Took}
-use Rattle.machine_steps.proofs.FacingLaws.{frames-few, room, slot-is}
+use Rattle.machine_steps.proofs.FacingLaws.{frames-few, room, last-is}
 use Rattle.machine.specs.declared.Move.{Move}
 use Rattle.machine.proofs.Move.{the-type}
 use Rattle.machine.specs.declared.Halt.{Halt}
@@ -170,6 +168,4 @@ module _ (w : List ℕ) (t : Top) (k : Tally) (r : Running w t k) where
   pub last-slot : (t .filled ≡ 0 → ⊥) → cell w (slotAddress (k .frames - 1) (t .filled - 1)) ≡ lastOf (slotsIn w (pred (k .frames)) (t .filled))
   last-slot n =
       let f : k .frames - 1 ≡ pred (k .frames) = omega arith in
-      let l : pred (length (slotsIn w (pred (k .frames)) (t .filled))) ≡ t .filled - 1 = omega (arith, slots-count w (pred (k .frames)) (t .filled)) in
-      ap (λ (g : ℕ). cell w (slotAddress g (t .filled - 1))) f
-      ∙ sym (lastOf-at (slotsIn w (pred (k .frames)) (t .filled)) ∙ ap (λ (i : ℕ). getD (slotsIn w (pred (k .frames)) (t .filled)) i 0) l ∙ slot-is w t k r (t .filled - 1) (omega arith))
+      ap (λ (g : ℕ). cell w (slotAddress g (t .filled - 1))) f ∙ sym (last-is w t k r (omega arith))

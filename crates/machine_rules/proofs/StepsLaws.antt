@@ -14,7 +14,7 @@ use Rattle.machine_rules.specs.declared.Outcome.{Outcome}
 use Rattle.machine_rules.specs.declared.Outcome.the-variants.{Done, Spent, StoreFull, StackFull}
 use Rattle.machine_rules.specs.State.{Frame, State, start, frameCount, made, objectAt}
 use Rattle.machine_rules.specs.Step.{Action, creates, Next, finished, step, storeFull, stackFull, lacking, bodyIn, fieldPlace, membersOf, slotValues, withNew, newStep, calledStep, callStep, gotStep, getStep, withField, hasPutStep, putStep, instrStep, returnStep, codeStep, nextStep}
-use Rattle.machine_rules.specs.Steps.{stateOf, stepFrom, after, tallyOf, counted, Ran, budgetUsed, goOn, runFrom, run}
+use Rattle.machine_rules.specs.Steps.{stateOf, stepFrom, after, tallyOf, startTally, counted, Ran, budgetUsed, goOn, runFrom, run}
 
 -- the state after n + 1 steps is one step from the state after n
 pub after-suc : (s : Sheet) (n : ℕ) → after s (suc n) ≡ stepFrom s (after s n)
@@ -24,7 +24,11 @@ after-suc s n = refl
 pub after-step : (s : Sheet) (n : ℕ) (σ σ′ : State) (a : Action) → after s n ≡ some σ → nextStep s σ ≡ step a σ′ → after s (suc n) ≡ some σ′
 after-step s n σ σ′ a p q = after-suc s n ∙ ap (stepFrom s) p ∙ ap stateOf q
 
--- the tally: what a step that is taken does to the counts
+-- the tally: the start, and what a step that is taken does to the counts
+
+-- the tally that a run starts with counts the state that it starts in
+pub tally-start : (s : Sheet) → tallyOf 0 (start s) ≡ startTally
+tally-start s = refl
 
 -- the counts after what comes next, if it is a step, are those that its action makes of the counts before
 pub data Counted (n : ℕ) (σ : State) : Next → Type 0 where

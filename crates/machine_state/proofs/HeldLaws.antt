@@ -95,6 +95,16 @@ pub code-end : (w : List ℕ) (p e : ℕ) → e ≤ p → instrsIn w p (e - p) �
 unfolding tab
 code-end w p e h = let none : e - p ≡ 0 = omega arith in ap (instrsIn w p) none
 
+-- the frames below: none, or one and those below it
+
+pub below-none : (w : List ℕ) (n : ℕ) → n ≡ 0 → belowIn w n ≡ []
+unfolding belowIn
+below-none w n e = ap (belowIn w) e
+
+pub below-next : (w : List ℕ) (n d : ℕ) → n ≡ suc d → belowIn w n ≡ frameFrom w d (topIn w d) ∷ belowIn w d
+unfolding belowIn
+below-next w n d e = ap (belowIn w) e
+
 -- how many of everything there are
 
 pub objects-count : (s : Sheet) (w : List ℕ) (n : ℕ) → length (objectsIn s w n) ≡ n

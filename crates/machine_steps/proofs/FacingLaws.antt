@@ -8,8 +8,9 @@ use lib.Seq.{getD-set-same, getD-set-other}
 use Rattle.lists.proofs.TabLaws.{getD-tab}
 use Rattle.sheet_rules.specs.Sheet.{Instr}
 use Rattle.machine_rules.specs.declared.Tally.{Tally}
-use Rattle.machine_rules.specs.State.{frameCount, noObject, objectAt, filled as withSlot}
+use Rattle.machine_rules.specs.State.{frameCount, noObject, objectAt, lastOf, filled as withSlot}
 use Rattle.machine_rules.specs.Step.{Action, step, nextStep, movedOn}
+use Rattle.machine_rules.proofs.FoundLaws.{lastOf-at}
 use Rattle.table.specs.Layout.{objectAddress, frameAddress, stateEnd, workSize}
 use Rattle.table.specs.View.{cell, instrsIn, sheetIn}
 use Rattle.table.specs.Only.{Only}
@@ -41,6 +42,14 @@ module _ (w : List ℕ) (t : Top) (k : Tally) (r : Running w t k) where
   -- a filled slot, and that it holds an object
   pub slot-is : (v : ℕ) → v < t .filled → getD (slotsIn w (pred (k .frames)) (t .filled)) v 0 ≡ cell w (slotAddress (pred (k .frames)) v)
   slot-is v h = getD-tab (λ i. cell w (slotAddress (pred (k .frames)) i)) (t .filled) v 0 h
+
+  -- the last filled slot: the body's value
+  pub last-is : 0 < t .filled → lastOf (slotsIn w (pred (k .frames)) (t .filled)) ≡ cell w (slotAddress (pred (k .frames)) (t .filled - 1))
+  last-is h =
+      let n : pred (length (slotsIn w (pred (k .frames)) (t .filled))) ≡ t .filled - 1 = omega (arith, slots-count w (pred (k .frames)) (t .filled)) in
+      lastOf-at (slotsIn w (pred (k .frames)) (t .filled))
+      ∙ ap (λ (i : ℕ). getD (slotsIn w (pred (k .frames)) (t .filled)) i 0) n
+      ∙ slot-is (t .filled - 1) (omega arith)
 
   -- an object that is made
   pub object-is : (o : ℕ) → o < k .objects → objectAt (objectsIn (sheetIn w) w (k .objects)) o ≡ objectIn (sheetIn w) w o

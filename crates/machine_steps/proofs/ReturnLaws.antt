@@ -3,7 +3,7 @@ use Prim.Native.Nat.{ℕ, suc, pred, _+_, _-_, _≤_, _<_}
 use native.Mathlib.Omega.{arith}
 use mathlib.Core.Path.{_≡_, refl, sym, ap, _∙_, subst}
 use mathlib.Core.List.{List, _∷_}
-use lib.ListN.{length, getD, set}
+use lib.ListN.{set}
 use lib.Seq.{getD-set-same, getD-set-other}
 use Rattle.lists.specs.In.{In}
 use Rattle.machine_rules.specs.declared.Tally.{Tally}
@@ -11,7 +11,6 @@ use Rattle.machine_rules.specs.State.{lastOf, filled as withSlot}
 use Rattle.machine_rules.specs.Step.{returns, step}
 use Rattle.machine_rules.specs.Steps.{returned}
 use Rattle.machine_rules.proofs.BoundsLaws.{frame-bounded}
-use Rattle.machine_rules.proofs.FoundLaws.{lastOf-at}
 use Rattle.machine_rules.proofs.TakenLaws.{take-return}
 use Rattle.machine_rules.proofs.ReadyLaws.{ready-end}
 use Rattle.table.specs.Layout.{objectAddress, frameAddress, stateEnd}
@@ -20,9 +19,9 @@ use Rattle.table.specs.Only.{Only}
 use Rattle.table.proofs.ViewLaws.{SameTable, only-set}
 use Rattle.machine_state.specs.declared.Top.{Top}
 use Rattle.machine_state.specs.Held.{slotAddress, objectsIn, slotsIn, frameFrom, topIn, filled, belowIn, stateIn}
-use Rattle.machine_state.proofs.HeldLaws.{objects-same, below-same, slot-added, code-end, slots-count}
+use Rattle.machine_state.proofs.HeldLaws.{objects-same, below-same, slot-added, code-end, below-next, slots-count}
 use Rattle.machine_steps.specs.Running.{Running, Took}
-use Rattle.machine_steps.proofs.FacingLaws.{frames-few, size, slot-is}
+use Rattle.machine_steps.proofs.FacingLaws.{frames-few, size, last-is}
 
 module _ (w : List ℕ) (t : Top) (k : Tally) (r : Running w t k) (ended : t .end ≤ t .next) (more : 1 < k .frames) where
   pub last-filled : 0 < t .filled
@@ -33,18 +32,10 @@ module _ (w : List ℕ) (t : Top) (k : Tally) (r : Running w t k) (ended : t .en
   last-small =
       omega (arith, (frame-bounded (sheetIn w) (r .whole .sheet) (stateIn (sheetIn w) w t k) (r .sound) (frameFrom w (pred (k .frames)) t) (In.here refl)) .slots, slots-count w (pred (k .frames)) (t .filled))
 
-  last-is : lastOf (slotsIn w (pred (k .frames)) (t .filled)) ≡ cell w (slotAddress (pred (k .frames)) (t .filled - 1))
-  last-is =
-      let n : pred (length (slotsIn w (pred (k .frames)) (t .filled))) ≡ t .filled - 1 = omega (arith, slots-count w (pred (k .frames)) (t .filled)) in
-      lastOf-at (slotsIn w (pred (k .frames)) (t .filled))
-      ∙ ap (λ (i : ℕ). getD (slotsIn w (pred (k .frames)) (t .filled)) i 0) n
-      ∙ slot-is w t k r (t .filled - 1) (omega (arith, last-filled))
-
   -- the frame below, and those below it
   module _ (d : ℕ) (is-below : pred (k .frames) ≡ suc d) where
     below-are : belowIn w (pred (k .frames)) ≡ frameFrom w d (topIn w d) ∷ belowIn w d
-    unfolding belowIn
-    below-are = ap (belowIn w) is-below
+    below-are = below-next w (pred (k .frames)) d is-below
 
     d-small : d < 63
     d-small = omega (arith, is-below, frames-few w t k r)
@@ -79,7 +70,7 @@ module _ (w : List ℕ) (t : Top) (k : Tally) (r : Running w t k) (ended : t .en
       left =
           sym (λ p. record {
             objects = objects-same (sheetIn w) w w′ (k .objects) (λ i l u. other i (omega arith)) p;
-            top = (ap (λ (x : ℕ). frameFrom w′ x (filled (topIn w d))) depth ∙ slot-added w w′ same d (topIn w d) (lastOf (slotsIn w (pred (k .frames)) (t .filled))) (omega (arith, below-small)) (λ i l u n. other i n) (found ∙ ev ∙ sym last-is)) p;
+            top = (ap (λ (x : ℕ). frameFrom w′ x (filled (topIn w d))) depth ∙ slot-added w w′ same d (topIn w d) (lastOf (slotsIn w (pred (k .frames)) (t .filled))) (omega (arith, below-small)) (λ i l u n. other i n) (found ∙ ev ∙ sym (last-is w t k r last-filled))) p;
             below = (ap (belowIn w′) depth ∙ below-same w w′ same d (omega (arith, d-small)) (λ i l u. other i (omega (arith, d-small)))) p;
           })
 

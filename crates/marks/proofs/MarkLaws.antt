@@ -4,7 +4,7 @@ use native.Mathlib.Omega.{arith}
 use native.Mathlib.Numerals.{add-one}
 use native.Mathlib.Decide.{decLe, ℕ-discrete}
 use mathlib.Core.Path.{_≡_, refl, sym, ap, _∙_, subst}
-use mathlib.Core.Bool.{Bool, true, false, _||_}
+use mathlib.Core.Bool.{Bool, false, _||_, or-true, or-false, or-assoc, or-comm}
 use mathlib.Core.List.{List, [], _∷_, _++_}
 use lib.Dec.{eqb}
 use lib.ListN.{length, set}
@@ -56,22 +56,6 @@ clearing-end w w′ n c h =
 
 -- ADDED
 
-or-none : (t : Bool) → (t || false) ≡ t
-or-none true = refl
-or-none false = refl
-
-or-one : (t : Bool) → (t || true) ≡ true
-or-one true = refl
-or-one false = refl
-
-or-assoc : (p q r : Bool) → ((p || q) || r) ≡ (p || (q || r))
-or-assoc true q r = refl
-or-assoc false q r = refl
-
-or-comm : (p q : Bool) → (p || q) ≡ (q || p)
-or-comm true q = sym (or-one q)
-or-comm false q = sym (or-none q)
-
 contains-append : (xs ys : List ℕ) (b : ℕ) → contains (xs ++ ys) b ≡ (contains xs b || contains ys b)
 unfolding contains
 contains-append [] ys b = refl
@@ -80,7 +64,7 @@ contains-append (x ∷ xs) ys b = ap (λ (t : Bool). eqb x b || t) (contains-app
 -- none
 pub added-none : (w : List ℕ) → Added w [] w
 unfolding contains
-added-none w = record { only = only-refl stateEnd (stateEnd + 256) w; told = λ b h. sym (or-none (isMarked w b)) }
+added-none w = record { only = only-refl stateEnd (stateEnd + 256) w; told = λ b h. sym (or-false (isMarked w b)) }
 
 -- some, and then others: the later ones stand before or after
 pub added-after : (w w₁ w₂ : List ℕ) (xs ys : List ℕ) → Added w xs w₁ → Added w₁ ys w₂ → Added w (xs ++ ys) w₂
@@ -118,10 +102,10 @@ added-one w v h s =
     go b k (yes e) =
         let p : markAddress b ≡ stateEnd + v = omega arith in
         ap (λ (x : ℕ). eqb x 1) (ap (cell (set w (stateEnd + v) 1)) p ∙ getD-set-same w (stateEnd + v) 1 0 (omega arith))
-        ∙ sym (ap (λ (t : Bool). isMarked w b || (t || false)) (eq-eqb v b e) ∙ or-one (isMarked w b))
+        ∙ sym (ap (λ (t : Bool). isMarked w b || (t || false)) (eq-eqb v b e) ∙ or-true (isMarked w b))
     go b k (no d) =
         ap (λ (x : ℕ). eqb x 1) (getD-set-other w (stateEnd + v) (markAddress b) 1 0 (λ q. d (omega arith)))
-        ∙ sym (ap (λ (t : Bool). isMarked w b || (t || false)) (ne-eqb v b d) ∙ or-none (isMarked w b))
+        ∙ sym (ap (λ (t : Bool). isMarked w b || (t || false)) (ne-eqb v b d) ∙ or-false (isMarked w b))
 
 -- the loop over places
 

@@ -38,7 +38,7 @@ loop-less c = omega (arith, c .loop-test .taken)
 
 -- src/lib.rt:14:5
 loop-again : tie.Need-loop-again Inv-loop μ-loop
-loop-again c = clearing-next (c .before .before .args .work .now) (c .before .loop .work) (c .before .loop .i) (c .before .loop .inv) (c .loop-test .taken) (c .before .before .pre)
+loop-again c = clearing-next (c .before .before .args .work .now) (c .before .loop .work) (c .before .loop .i) (c .before .loop .inv) (omega (arith, c .loop-test .taken)) (c .before .before .pre)
 
 -- src/lib.rt:9:1
 same-length : tie.Need-same-length Inv-loop μ-loop

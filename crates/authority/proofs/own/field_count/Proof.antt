@@ -18,46 +18,46 @@ Inv-loop work₀ form row count fields₀ j₀ fields j = (j ≤ count) × Count
 abbrev μ-loop : tie.MeasureT-loop
 μ-loop work₀ form row count fields₀ j₀ fields j = count - j
 
--- src/own.rt:34:20
+-- src/own.rt:35:20
 form-row-requires : tie.Need-form-row-requires Inv-loop μ-loop
 form-row-requires c κs = (c .before .pre .0)
 
--- src/own.rt:34:9
+-- src/own.rt:35:9
 wide-requires : tie.Need-wide-requires Inv-loop μ-loop
 wide-requires c κs = tt
 
--- src/own.rt:35:9
+-- src/own.rt:36:9
 members-at-requires : tie.Need-members-at-requires Inv-loop μ-loop
 members-at-requires c κs = (c .before .before .before .pre .0)
 
--- src/own.rt:38:5
+-- src/own.rt:39:5
 loop-holds : tie.Need-loop-holds Inv-loop μ-loop
 loop-holds c = (omega arith, counting-start (c .before .before .before .before .args .work .now) (c .before .wide .result))
 
--- src/own.rt:39:30
+-- src/own.rt:40:30
 member-requires : tie.Need-member-requires Inv-loop μ-loop
 member-requires c κs = counting-asks (c .before .before .before .before .before .before .args .work .now) (c .before .before .before .before .before .before .pre .0) (c .before .before .before .before .before .before .args .form) (c .before .before .before .wide .result) ((c .before .before .before .wide .ensures) ∙ (c .before .before .before .before .form-row .ensures)) (c .before .before .members-at .result) (c .before .before .members-at .ensures) (c .before .loop .j) (c .loop-test .taken)
 
--- src/own.rt:39:9
+-- src/own.rt:40:9
 fields-with-requires : tie.Need-fields-with-requires Inv-loop μ-loop
 fields-with-requires c κs = omega (arith, (c .before .before .loop .inv) .1 .few, c .before .loop-test .taken, c .before .before .before .members-at .ensures .1)
 
--- src/own.rt:40:13
+-- src/own.rt:41:13
 add-j : tie.Need-add-j Inv-loop μ-loop
 add-j c = omega (arith, c .before .before .loop-test .taken, c .before .before .before .before .members-at .ensures .1)
 
--- src/own.rt:38:5
+-- src/own.rt:39:5
 loop-less : tie.Need-loop-less Inv-loop μ-loop
 loop-less c = omega (arith, c .before .before .loop-test .taken)
 
--- src/own.rt:38:5
+-- src/own.rt:39:5
 loop-again : tie.Need-loop-again Inv-loop μ-loop
 loop-again c = (
   omega (arith, c .before .before .loop-test .taken),
   counting-next (c .before .before .before .before .before .before .before .before .args .work .now) (c .before .before .before .before .before .wide .result) (c .before .before .before .loop .fields) (c .before .before .before .loop .j) ((c .before .before .before .loop .inv) .1) (c .before .member .result) (c .before .member .ensures) (c .fields-with .result) (c .fields-with .ensures),
 )
 
--- src/own.rt:30:1
+-- src/own.rt:31:1
 returns : tie.Need-returns Inv-loop μ-loop
 returns c = counting-end (c .before .before .before .before .before .before .args .work .now) (c .before .before .before .before .before .before .pre .0) (c .before .before .before .before .before .before .args .form) (c .before .before .before .wide .result) ((c .before .before .before .wide .ensures) ∙ (c .before .before .before .before .form-row .ensures)) (c .before .before .members-at .result) (c .before .before .members-at .ensures) (c .before .loop .fields) (c .before .loop .j) ((c .before .loop .inv) .1) (omega (arith, (c .before .loop .inv) .0, c .loop-test .left))
 
