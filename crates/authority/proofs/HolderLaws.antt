@@ -2,15 +2,16 @@
 use Prim.Native.Nat.{ℕ, suc, _+_, _-_, _*_, _≤_, _<_}
 use native.Mathlib.Omega.{arith}
 use mathlib.Core.Path.{_≡_, sym, ap, _∙_, subst}
-use mathlib.Core.Bool.{Bool, true, false, cond, _&&_}
+use mathlib.Core.Bool.{Bool, true, false, cond, _&&_, _||_}
 use mathlib.Core.List.{List}
+use lib.Dec.{eqb}
 use lib.ListN.{length}
 use borrow.Author.Tests.{lt-ltb, le-ltb, eq-eqb, ne-eqb}
 use Rattle.lists.proofs.TabLaws.{length-tab, getD-tab, tab-ext}
 use Rattle.sheet_rules.specs.declared.Kind.{Kind}
 use Rattle.sheet_rules.specs.Sheet.{formAt, rowAt, rowOfForm}
 use Rattle.machine_rules.specs.State.{Object, noObject, objectAt}
-use Rattle.authority_rules.specs.Authority.{isResourceKind, isResource, frameHolder, slotsIf}
+use Rattle.authority_rules.specs.Authority.{mainHolder, isResourceKind, isResource, frameHolder, slotsIf}
 use Rattle.table.specs.Layout.{objectAddress, stateEnd, workSize}
 use Rattle.table.specs.View.{cell, sheetIn}
 use Rattle.machine_state.specs.Held.{slotAddress, objectIn, objectsIn, slotsIn, ownFrom}
@@ -38,6 +39,15 @@ module _ (w : List ℕ) (n : ℕ) (s : Stored w n) where
       let form : f ≡ (objectAt (objectsIn (sheetIn w) w n) o) .form = ef ∙ sym (ap (λ (x : Object). x .form) (getD-tab (objectIn (sheetIn w) w) n o noObject h)) in
       ap isResourceKind (ek ∙ ap (λ (x : ℕ). (rowAt ((sheetIn w) .rows) x) .kind) (eq ∙ er ∙ ap (λ (x : ℕ). (formAt (sheetIn w) x) .row) form))
       ∙ sym (ap (λ (b : Bool). b && isResourceKind ((rowOfForm (sheetIn w) ((objectAt (objectsIn (sheetIn w) w n) o) .form)) .kind)) (lt-ltb o (length (objectsIn (sheetIn w) w n)) (omega arith)))
+
+  -- main is a holder; any other number is one if it is a resource
+
+  pub holder-main : (h : ℕ) → h ≡ 256 → true ≡ (eqb h mainHolder || isResource (sheetIn w) (objectsIn (sheetIn w) w n) h)
+  holder-main h e = sym (ap (λ (b : Bool). b || isResource (sheetIn w) (objectsIn (sheetIn w) w n) h) (eq-eqb h 256 e))
+
+  pub holder-object : (h : ℕ) → (h ≡ 256 → ⊥) → (b : Bool) → b ≡ isResource (sheetIn w) (objectsIn (sheetIn w) w n) h
+      → b ≡ (eqb h mainHolder || isResource (sheetIn w) (objectsIn (sheetIn w) w n) h)
+  holder-object h d b e = e ∙ sym (ap (λ (x : Bool). x || isResource (sheetIn w) (objectsIn (sheetIn w) w n) h) (ne-eqb h 256 d))
 
   -- whose a frame is
 

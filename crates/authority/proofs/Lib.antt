@@ -3,3 +3,5 @@ pub mod BelowLaws
 pub mod OwnLaws
 pub mod WrittenLaws
 pub mod ReachLaws
+pub mod PutLaws
+pub mod EveryLaws

@@ -11,7 +11,7 @@ use Rattle.authority_rules.specs.Authority.{addIf, passing}
 use Rattle.authority.specs.Laid.{begun, Kept, Written}
 
 -- one number more, at the end
-passing-snoc : (test : ℕ → Bool) (i k : ℕ) → passing test i (suc k) ≡ passing test i k ++ addIf (test (i + k)) (i + k) []
+pub passing-snoc : (test : ℕ → Bool) (i k : ℕ) → passing test i (suc k) ≡ passing test i k ++ addIf (test (i + k)) (i + k) []
 unfolding passing
 passing-snoc test i zero = let e : i ≡ i + 0 = omega arith in ap (λ (x : ℕ). addIf (test x) x []) e
 passing-snoc test i (suc k) =
@@ -23,7 +23,7 @@ passing-snoc test i (suc k) =
     go true = refl
     go false = refl
 
-passing-few : (test : ℕ → Bool) (i k : ℕ) → length (passing test i k) ≤ k
+pub passing-few : (test : ℕ → Bool) (i k : ℕ) → length (passing test i k) ≤ k
 unfolding passing
 passing-few test i zero = omega arith
 passing-few test i (suc k) = go (test i) (passing test (suc i) k) (passing-few test (suc i) k)

@@ -11,6 +11,7 @@ use sheet_rules::Kind;
 use table::rows::wide;
 
 pub mod collect;
+pub mod every;
 pub mod own;
 pub mod reach;
 

@@ -1,18 +1,33 @@
 // A holder's authority in the state that a run left: all that it can reach is marked, and the resources among it are written.
+ghost use mathlib.Core.Path.{_≡_};
+ghost use mathlib.Core.Bool.{_||_};
 ghost use Prim.Native.Nat.{_≤_};
-ghost use lib.Dec.{T};
+ghost use lib.Dec.{T, eqb};
 ghost use lib.ListN.{length};
-ghost use Rattle.authority_rules.specs.Authority.{isHolder};
+ghost use Rattle.authority_rules.specs.Authority.{mainHolder, isResource, isHolder};
 ghost use Rattle.table.specs.View.{sheetIn};
-ghost use Rattle.machine_state.specs.Held.{stateIn};
+ghost use Rattle.machine_state.specs.Held.{objectsIn, stateIn};
 ghost use Rattle.machine_steps.specs.Running.{Running};
+ghost use Rattle.authority.specs.Laid.{Stored};
 ghost use Rattle.authority.specs.Reach.{ReachMarked, AuthorityWritten};
 use crate::collect::write_reached;
+use crate::is_resource;
 use crate::mark_below;
 use crate::mark_frame;
 use crate::own::mark_own;
 use machine_rules::Tally;
 use machine_state::Top;
+
+// Whether number h is a holder, among n objects: main, or a resource object.
+pub fn is_holder(work: &[u16], n: usize, h: usize) -> bool
+    requires { ⌜ Stored (now work) n ⌝ }
+    ensures { λ r. ⌜ r ≡ (eqb h mainHolder || isResource (sheetIn (now (work .entry))) (objectsIn (sheetIn (now (work .entry))) (now (work .entry)) n) h) ⌝ }
+{
+    if h == 256 {
+        return true;
+    }
+    is_resource(work, n, h)
+}
 
 // Marks what holder h can reach: what is its own, and the filled slots of its frames.
 fn mark_reached(work: &mut [u16], top: Top, tally: Tally, h: usize)

@@ -6,7 +6,7 @@ use mathlib.Core.Path.{_≡_, refl}
 use mathlib.Core.List.{List, [], _∷_, map}
 use Rattle.sheet_rules.specs.Samples.{textOf, P}
 use Rattle.authority_rules.specs.AuthorityQuestion.{authorityHeld}
-use Rattle.authority_rules.specs.Cases.{heldNumbers}
+use Rattle.authority_rules.specs.Cases.{heldShown}
 use Rattle.authority_rules.proofs.Opened.{holding}
 
 -- a pure object's method makes a resource, hands it to a keeper that puts it in its field, and gives a pure value back.
@@ -74,6 +74,6 @@ cases =
     ∷ holds pantry 100 4 (0 ∷ 0 ∷ 4 ∷ [])
     ∷ []
 
-pub all : map (λ c. heldNumbers (authorityHeld (textOf (c .sheet)) (c .budget) (c .holder))) cases ≡ map (λ c. c .wanted) cases
+pub all : map (λ c. heldShown (authorityHeld (textOf (c .sheet)) (c .budget) (c .holder))) cases ≡ map (λ c. c .wanted) cases
 unfolding holding
 all = refl

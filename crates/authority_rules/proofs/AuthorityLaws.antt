@@ -11,7 +11,7 @@ use lib.ListN.{length}
 use borrow.Author.Tests.{eqb-false}
 use Rattle.lists.proofs.Tests.{and-left, or-left, or-right, or-cases, T-ext}
 use Rattle.sheet_rules.specs.Sheet.{Sheet}
-use Rattle.machine_rules.specs.State.{State}
+use Rattle.machine_rules.specs.State.{Object, State}
 use Rattle.authority_rules.specs.Authority.{isResource, reached, contains, holds, addIf, passing, authority}
 
 -- ascending without repeats, from i on: each number is above all before it
@@ -66,17 +66,21 @@ passing-passes test i (suc k) b t = go (test i) refl (passing test (suc i) k) (p
         pick (inl e) = subst (λ (x : ℕ). T (test x)) (eqb→eq i b e) (subst T (sym p) tt)
         pick (inr v) = r v
 
--- what a holder holds is an object
-pub holds-made : (s : Sheet) (σ : State) (h b : ℕ) → T (holds s σ h b) → b < length (σ .objects)
-unfolding holds isResource
-holds-made s σ h b t =
-    ltb→lt b (length (σ .objects))
-    (and-left (ltb b (length (σ .objects))) _ (and-left (isResource s (σ .objects) b) (contains (reached s σ h) b) t))
+-- a number stands among those that pass a test exactly when it passes, where only numbers below n pass
+pub passing-exactly : (test : ℕ → Bool) (n b : ℕ) → (T (test b) → b < n) → contains (passing test 0 n) b ≡ test b
+passing-exactly test n b made =
+    T-ext (contains (passing test 0 n) b) (test b)
+    (passing-passes test 0 n b)
+    (λ t. contains-passing test 0 n b (omega arith) (omega (arith, made t)) t)
+
+-- a resource is an object
+pub resource-below : (s : Sheet) (os : List Object) (b : ℕ) → T (isResource s os b) → b < length os
+unfolding isResource
+resource-below s os b t = ltb→lt b (length os) (and-left (ltb b (length os)) _ t)
 
 -- a number is in a holder's authority exactly when the holder holds it
 pub authority-holds : (s : Sheet) (σ : State) (h b : ℕ) → contains (authority s σ h) b ≡ holds s σ h b
-unfolding authority
+unfolding authority holds
 authority-holds s σ h b =
-    T-ext (contains (passing (holds s σ h) 0 (length (σ .objects))) b) (holds s σ h b)
-    (passing-passes (holds s σ h) 0 (length (σ .objects)) b)
-    (λ t. contains-passing (holds s σ h) 0 (length (σ .objects)) b (omega arith) (omega (arith, holds-made s σ h b t)) t)
+    passing-exactly (holds s σ h) (length (σ .objects)) b
+    (λ t. resource-below s (σ .objects) b (and-left (isResource s (σ .objects) b) (contains (reached s σ h) b) t))

@@ -2,6 +2,8 @@ pub mod Opened
 pub mod CasesHold
 pub mod AuthorityCases
 pub mod AuthorityLaws
+pub mod ReportLaws
+pub mod DecimalLaws
 pub mod HoldingLaws
 pub mod StableLaws
 pub mod KindLaws

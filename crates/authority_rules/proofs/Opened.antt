@@ -2,8 +2,10 @@
 -- computed from the rules names it alone. Proves nothing.
 use Rattle.authority_rules.specs.Authority.{isResource, holderOf, slotsOf, reached, contains, holds, passing, authority}
 use Rattle.authority_rules.specs.AuthorityQuestion.{authorityHeld}
+use Rattle.authority_rules.specs.Report.{report}
+use Rattle.authority_rules.specs.Printed.{decimalUpTo, decimal, further, verdictWord, lineWord, outcomeWord, stepsWord, valueWord, holderWord, holderLines, printed}
 use Rattle.machine_rules.proofs.Opened.{running}
 
 unfoldable pub holding : Unit {0}
-unfolding isResource holderOf slotsOf reached contains holds passing authority authorityHeld running
+unfolding isResource holderOf slotsOf reached contains holds passing authority authorityHeld report decimalUpTo decimal further verdictWord lineWord outcomeWord stepsWord valueWord holderWord holderLines printed running
 holding = tt

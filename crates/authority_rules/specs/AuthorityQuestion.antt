@@ -5,11 +5,9 @@ use mathlib.Core.Bool.{cond}
 use mathlib.Core.List.{List}
 use Rattle.sheet_rules.specs.declared.Reason.{Reason}
 use Rattle.sheet_rules.specs.declared.Reason.the-variants.{NoHolder}
-use Rattle.sheet_rules.specs.declared.Verdict.{Verdict}
-use Rattle.sheet_rules.specs.declared.Verdict.the-variants.{Accepted, Refused}
 use Rattle.sheet_rules.specs.Sheet.{Sheet}
-use Rattle.sheet_rules.specs.Reading.{Meaning, readable, unreadable, meaning}
-use Rattle.type_rules.specs.Typing.{typing}
+use Rattle.sheet_rules.specs.Reading.{meaning}
+use Rattle.type_rules.specs.Typing.{acceptedOn}
 use Rattle.machine_rules.specs.State.{State}
 use Rattle.machine_rules.specs.Steps.{run}
 use Rattle.authority_rules.specs.Authority.{isHolder, authority}
@@ -23,16 +21,7 @@ pub data Held : Type 0 where
 abbrev pub heldIn : Sheet → State → ℕ → Held
 heldIn s σ h = cond (isHolder s σ h) (held (authority s σ h)) (notHeld NoHolder 0)
 
--- only an accepted sheet is run (Turned away, 11)
-abbrev pub heldOf : Sheet → ℕ → ℕ → Verdict → Held
-heldOf s budget h Accepted = heldIn s ((run s budget) .last) h
-heldOf s budget h (Refused r n) = notHeld r n
-
--- only a sheet that was read is judged (Turned away, 11)
-abbrev pub heldOn : Meaning → ℕ → ℕ → Held
-heldOn (readable s) budget h = heldOf s budget h (typing s)
-heldOn (unreadable r n) budget h = notHeld r n
-
--- the authority of holder h in the state that the run of a text within a budget leaves (Turned away, 11)
+-- the authority of holder h in the state that the run of a text within a budget leaves; only an accepted sheet is run
+-- (Turned away, 11)
 unfoldable pub authorityHeld : List ℕ → ℕ → ℕ → Held
-authorityHeld text budget h = heldOn (meaning text) budget h
+authorityHeld text budget h = acceptedOn notHeld (λ s. heldIn s ((run s budget) .last) h) (meaning text)

@@ -18,20 +18,20 @@ pub data Question : Type 0 where
 
 -- what is printed of an answer: the refusal's number and line, or 0, 0 and the run's outcome and steps, or the authority
 -- (One sheet in full)
-abbrev pub runNumbers : RunReply → List ℕ
-runNumbers (RunReply.Ran a) = 0 ∷ 0 ∷ outcomeNumber (a .outcome) ∷ a .steps ∷ []
-runNumbers (RunReply.Refused r n) = numberOf r ∷ n ∷ []
+abbrev pub runShown : RunReply → List ℕ
+runShown (RunReply.Ran a) = 0 ∷ 0 ∷ outcomeNumber (a .outcome) ∷ a .steps ∷ []
+runShown (RunReply.Refused r n) = numberOf r ∷ n ∷ []
 
 -- and of an authority answer (One sheet in full)
-abbrev pub heldNumbers : Held → List ℕ
-heldNumbers (held os) = 0 ∷ 0 ∷ os
-heldNumbers (notHeld r n) = numberOf r ∷ n ∷ []
+abbrev pub heldShown : Held → List ℕ
+heldShown (held os) = 0 ∷ 0 ∷ os
+heldShown (notHeld r n) = numberOf r ∷ n ∷ []
 
 -- the numbers of the answer to a question about a text (One sheet in full)
 abbrev pub numbers : Question → List ℕ → List ℕ
 numbers judged text = verdictNumber (verdict text) ∷ verdictLine (verdict text) ∷ []
-numbers (runWithin budget) text = runNumbers (runReply text budget)
-numbers (heldBy budget holder) text = heldNumbers (authorityHeld text budget holder)
+numbers (runWithin budget) text = runShown (runReply text budget)
+numbers (heldBy budget holder) text = heldShown (authorityHeld text budget holder)
 
 -- a case: the lines of a sheet, a question, and the numbers that the paper gives for its answer (One sheet in full)
 pub record Case : Type 0 where

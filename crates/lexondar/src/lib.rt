@@ -16,6 +16,8 @@ use sheet_rules::Reason;
 use sheet_rules::Verdict;
 use type_rules::FitReply;
 
+pub mod held;
+
 // The answer of the fit question.
 #[repr(C)]
 pub struct FitResult {
@@ -43,7 +45,7 @@ pub struct RunResult {
 }
 
 // The number of a refusal.
-fn number_of(reason: Reason) -> u32
+pub fn number_of(reason: Reason) -> u32
     ensures { λ r. ⌜ r ≡ numberOf reason ⌝ }
 {
     match reason {
@@ -117,7 +119,7 @@ pub extern "C" fn lexondar_verdict(text: &[u8], work: &mut [u16]) -> VerdictResu
 }
 
 // The number of an outcome.
-fn outcome_number(outcome: Outcome) -> u32
+pub fn outcome_number(outcome: Outcome) -> u32
     ensures { λ r. ⌜ r ≡ outcomeNumber outcome ⌝ }
 {
     match outcome {

@@ -3,11 +3,9 @@ use Prim.Native.Nat.{ℕ, zero, suc, pred}
 use mathlib.Core.List.{List}
 use mathlib.Core.Option.{Option, none, some}
 use lib.ListN.{length}
-use Rattle.sheet_rules.specs.declared.Verdict.{Verdict}
-use Rattle.sheet_rules.specs.declared.Verdict.the-variants.{Accepted, Refused}
 use Rattle.sheet_rules.specs.Sheet.{Sheet}
-use Rattle.sheet_rules.specs.Reading.{Meaning, readable, unreadable, meaning}
-use Rattle.type_rules.specs.Typing.{typing}
+use Rattle.sheet_rules.specs.Reading.{meaning}
+use Rattle.type_rules.specs.Typing.{acceptedOn}
 use Rattle.machine_rules.specs.declared.Outcome.{Outcome}
 use Rattle.machine_rules.specs.declared.Outcome.the-variants.{Done, Spent, StoreFull, StackFull}
 use Rattle.machine_rules.specs.declared.Tally.{Tally}
@@ -139,16 +137,6 @@ answerOf r =
       objects = length (r .last .objects);
     }
 
--- only an accepted sheet is run (The machine)
-abbrev pub runOf : Sheet → ℕ → Verdict → RunReply
-runOf s budget Accepted = RunReply.Ran (answerOf (run s budget))
-runOf s budget (Refused r n) = RunReply.Refused r n
-
--- only a sheet that was read is judged (The machine)
-abbrev pub runOn : Meaning → ℕ → RunReply
-runOn (readable s) budget = runOf s budget (typing s)
-runOn (unreadable r n) budget = RunReply.Refused r n
-
--- what the run question answers for a text and a budget, its buffer left aside (The machine)
+-- what the run question answers for a text and a budget, its buffer left aside: only an accepted sheet is run (The machine)
 unfoldable pub runReply : List ℕ → ℕ → RunReply
-runReply text budget = runOn (meaning text) budget
+runReply text budget = acceptedOn RunReply.Refused (λ s. RunReply.Ran (answerOf (run s budget))) (meaning text)

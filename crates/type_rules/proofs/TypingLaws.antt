@@ -1,7 +1,7 @@
 -- An accepted sheet is well typed: no line is at fault, so each line's rule holds. Assumes nothing.
 use Prim.Native.Nat.{ℕ, suc, pred, _<_}
 use native.Mathlib.Omega.{arith}
-use mathlib.Core.Path.{_≡_, refl, sym, subst}
+use mathlib.Core.Path.{_≡_, refl, sym, ap, _∙_, subst}
 use mathlib.Core.Bool.{Bool, true, false, not, _&&_}
 use mathlib.Core.List.{List, [], _∷_, _++_}
 use mathlib.Core.Option.{Option, none, some}
@@ -16,12 +16,13 @@ use Rattle.sheet_rules.specs.declared.Member.{Member}
 use Rattle.sheet_rules.specs.declared.Member.the-variants.{Method, Field}
 use Rattle.sheet_rules.specs.declared.Reason.{Reason}
 use Rattle.sheet_rules.specs.declared.Reason.the-variants.{ImpureForm, Misfit}
-use Rattle.sheet_rules.specs.declared.Verdict.the-variants.{Accepted}
+use Rattle.sheet_rules.specs.declared.Verdict.the-variants.{Accepted, Refused}
 use Rattle.sheet_rules.specs.Sheet.{Row, Instr, new, call, get, put, copy, Part, init, body, Form, Sheet, rowAt, formAt}
 use Rattle.sheet_rules.specs.FormLines.{allBelow, namesExist}
+use Rattle.sheet_rules.specs.Reading.{Meaning, readable, unreadable}
 use Rattle.sheet_rules.specs.WellFormed.{Scoped, WellFormedBody, PartOf, WellFormedForm, WellFormed}
 use Rattle.type_rules.specs.Fit.{fits}
-use Rattle.type_rules.specs.Typing.{Signature, methodIn, membersAt, Own, ownField, resultOf, rowOr0, slotRow, bodyRows, mainRows, Fault, unless, firstOf, allFit, callFault, getFault, putFault, instrFault, resultFault, instrFaults, partFaults, partsFaults, isPure, hasField, keepFaults, formFaults, formsFaults, lineFaults, firstFault, firstFormLine, typing}
+use Rattle.type_rules.specs.Typing.{Signature, methodIn, membersAt, Own, ownField, resultOf, rowOr0, slotRow, bodyRows, mainRows, Fault, unless, firstOf, allFit, callFault, getFault, putFault, instrFault, resultFault, instrFaults, partFaults, partsFaults, isPure, hasField, keepFaults, formFaults, formsFaults, lineFaults, firstFault, firstFormLine, typing, verdictOn, ifAccepted, acceptedOn}
 use Rattle.type_rules.specs.Typed.{SlotFits, InstrTyped, typed-new, typed-call, typed-get, typed-put, typed-copy, ResultFits, undeclared, declared, lastRow, CodeTyped, end, next, PartTyped, typed-init, typed-body, FormTyped, Typed}
 
 -- lines without a fault
@@ -207,3 +208,18 @@ module _ (s : Sheet) where
 
       all : Faultless (lineFaults (fits (s .rows)) s)
       all = firstFault-faultless (firstFormLine s) (lineFaults (fits (s .rows)) s) e
+
+-- WHAT GOES ON FROM THE VERDICT
+
+module _ {A : Type 0} (refused : Reason → ℕ → A) (answer : Sheet → A) (m : Meaning) where
+  -- a text that the verdict refuses is refused so
+  pub refused-on : (q : Reason) (l : ℕ) → verdictOn m ≡ Refused q l → acceptedOn refused answer m ≡ refused q l
+  refused-on q l e = go m e
+    where
+      go : (x : Meaning) → verdictOn x ≡ Refused q l → acceptedOn refused answer x ≡ refused q l
+      go (readable s) v = ap (ifAccepted refused (answer s)) v
+      go (unreadable p n) v = ap (ifAccepted refused (refused p n)) v
+
+  -- one that it accepts goes on with its sheet
+  pub accepted-on : (s : Sheet) → m ≡ readable s → verdictOn m ≡ Accepted → acceptedOn refused answer m ≡ answer s
+  accepted-on s e v = ap (acceptedOn refused answer) e ∙ ap (ifAccepted refused (answer s)) (ap verdictOn (sym e) ∙ v)

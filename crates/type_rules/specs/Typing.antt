@@ -227,3 +227,13 @@ verdictOn (unreadable r n) = Refused r n
 -- the verdict on a text (Turned away)
 unfoldable pub verdict : List ℕ → Verdict
 verdict text = verdictOn (meaning text)
+
+-- what is answered where the sheet goes on to be run: a refusal as it is, or the answer for an accepted sheet (Turned away)
+abbrev pub ifAccepted : {A : Type 0} → (Reason → ℕ → A) → A → Verdict → A
+ifAccepted refused answer Accepted = answer
+ifAccepted refused answer (Refused r n) = refused r n
+
+-- only a sheet that was read is judged, and only an accepted one goes on (Turned away)
+abbrev pub acceptedOn : {A : Type 0} → (Reason → ℕ → A) → (Sheet → A) → Meaning → A
+acceptedOn refused answer (readable s) = ifAccepted refused (answer s) (typing s)
+acceptedOn refused answer (unreadable r n) = refused r n

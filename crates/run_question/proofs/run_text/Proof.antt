@@ -1,4 +1,4 @@
-use Rattle.run_question.proofs.ReplyLaws.{reply-refused, reply-judged, reply-ran}
+use Rattle.run_question.proofs.ReplyLaws.{reply-refused, accepted-judged, reply-ran}
 use borrow.Author.Needs.{needs}
 use Rattle.run_question.proofs.run_text.Statement.{statement}
 use Rattle.run_question.proofs.run_text.Tie as tie
@@ -17,7 +17,7 @@ enum-told c = search needs
 
 -- src/lib.rt:20:21
 answer-sheet-requires : tie.Need-answer-sheet-requires
-answer-sheet-requires c κs = reply-judged (c .before .before .before .before .before .before .before .before .before .args .text .now) (c .before .before .before .before .before .before .before .before .before .args .work .now) (c .before .before .before .before .before .judge-text .last .1 .0) (c .before .before .before .before .before .before .before .before .before .args .budget) (c .before .before .before .before .before .judge-text .result) (c .before .before .before .before .before .before .before .before .before .pre) (c .before .before .before .before .before .judge-text .ensures) (c .before .enum-told .given .1)
+answer-sheet-requires c κs = accepted-judged (c .before .before .before .before .before .before .before .before .before .args .text .now) (c .before .before .before .before .before .before .before .before .before .args .work .now) (c .before .before .before .before .before .judge-text .last .1 .0) (c .before .before .before .before .before .judge-text .result) (c .before .before .before .before .before .before .before .before .before .pre) (c .before .before .before .before .before .judge-text .ensures) (c .before .enum-told .given .1)
 
 -- src/lib.rt:22:28
 enum-known-judged : tie.Need-enum-known-judged
@@ -30,7 +30,7 @@ same-length c = search needs
 -- src/lib.rt:13:1
 returns : tie.Need-returns
 returns c =
-    reply-ran (c .before .before .before .before .before .before .before .before .before .before .before .before .args .text .now) (c .before .before .before .before .before .before .before .before .before .before .before .before .args .work .now) (c .before .before .before .before .before .before .before .before .judge-text .last .1 .0) (c .before .before .before .before .before .before .before .before .before .before .before .before .args .budget) (c .before .before .before .before .before .before .before .before .judge-text .result) (c .before .before .before .before .before .before .before .before .before .before .before .before .pre) (c .before .before .before .before .before .before .before .before .judge-text .ensures) (c .before .before .before .before .enum-told .given .1)
+    reply-ran (c .before .before .before .before .before .before .before .before .before .before .before .before .args .text .now) (c .before .before .before .before .before .before .before .before .before .before .before .before .args .work .now) (c .before .before .before .before .before .before .before .before .judge-text .last .1 .0) (c .before .before .before .before .before .before .before .before .before .before .before .before .args .budget) (c .before .before .before .before .before .before .before .before .judge-text .result) (c .before .before .before .before .before .before .before .before .judge-text .ensures) (c .before .before .before .before .enum-told .given .1)
     (c .before .before .answer-sheet .last .0) (c .before .before .answer-sheet .result) (c .before .before .answer-sheet .ensures)
 
 -- src/lib.rt:13:1
@@ -40,7 +40,7 @@ same-length-2 c = search needs
 -- src/lib.rt:13:1
 returns-2 : tie.Need-returns-2
 returns-2 c =
-    reply-refused (c .before .before .before .before .before .before .before .before .before .args .text .now) (c .before .before .before .before .before .before .before .before .before .args .work .now) (c .before .before .before .before .before .judge-text .last .1 .0) (c .before .before .before .before .before .before .before .before .before .args .budget) (c .before .before .before .before .before .judge-text .result) (c .before .before .before .before .before .before .before .before .before .pre) (c .before .before .before .before .before .judge-text .ensures) (c .before .judged .given .0 .0) (c .before .judged .given .0 .1 .0) (c .before .judged .given .1)
+    reply-refused (c .before .before .before .before .before .before .before .before .before .args .text .now) (c .before .before .before .before .before .before .before .before .before .args .work .now) (c .before .before .before .before .before .judge-text .last .1 .0) (c .before .before .before .before .before .before .before .before .before .args .budget) (c .before .before .before .before .before .judge-text .result) (c .before .before .before .before .before .judge-text .ensures) (c .before .judged .given .0 .0) (c .before .judged .given .0 .1 .0) (c .before .judged .given .1)
 
 pub run-text-spec : {M : Type 1} → statement M
 run-text-spec =
