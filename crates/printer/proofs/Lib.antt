@@ -1,0 +1,5 @@
+pub mod PutLaws
+pub mod LineLaws
+pub mod ReportLaws
+pub mod HoldersLaws
+pub mod PrintedLaws
