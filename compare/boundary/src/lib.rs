@@ -3,6 +3,13 @@
 /// So many numbers of the work buffer are used.
 pub const WORK: usize = 32_768;
 
+/// So many places of the result buffer an authority asks for.
+pub const AUTHORITY: usize = 256;
+
+/// So many places of the result buffer a report asks for: two and 256 for
+/// main and for each of 256 objects.
+pub const REPORT: usize = 66_306;
+
 /// The fit question's answer: a refusal's number or 0, its line or 0, and 1
 /// for yes.
 #[repr(C)]
@@ -35,6 +42,30 @@ pub struct RunResult {
     pub objects: u32,
 }
 
+/// The authority question's answer: a refusal's number or 0, its line or 0,
+/// and how many numbers were written, of a refused one 0.
+#[repr(C)]
+#[derive(Clone, Copy, Debug, PartialEq, Eq)]
+pub struct AuthorityResult {
+    pub refusal: u32,
+    pub line: u32,
+    pub count: u32,
+}
+
+/// A report: a run's answer, and how many numbers the holders' entries take,
+/// of a refused sheet 0.
+#[repr(C)]
+#[derive(Clone, Copy, Debug, PartialEq, Eq)]
+pub struct ReportResult {
+    pub refusal: u32,
+    pub line: u32,
+    pub outcome: u32,
+    pub steps: u32,
+    pub value: u32,
+    pub objects: u32,
+    pub count: u32,
+}
+
 extern "C" {
     fn lexondar_fit(
         text: *const u8,
@@ -57,6 +88,25 @@ extern "C" {
         work: *mut u16,
         work_len: usize,
     ) -> RunResult;
+    fn lexondar_authority(
+        text: *const u8,
+        text_len: usize,
+        budget: u32,
+        holder: usize,
+        work: *mut u16,
+        work_len: usize,
+        result: *mut u16,
+        result_len: usize,
+    ) -> AuthorityResult;
+    fn lexondar_report(
+        text: *const u8,
+        text_len: usize,
+        budget: u32,
+        work: *mut u16,
+        work_len: usize,
+        result: *mut u16,
+        result_len: usize,
+    ) -> ReportResult;
 }
 
 /// Whether row a of the text's sheet fits row b.
@@ -91,6 +141,48 @@ pub fn run(text: &[u8], budget: u32, work: &mut [u16]) -> RunResult {
             budget,
             work.as_mut_ptr(),
             work.len(),
+        )
+    }
+}
+
+/// The authority of a holder after a run of the text's sheet, for at most so
+/// many steps: ascending, at the start of the result buffer.
+pub fn authority(
+    text: &[u8],
+    budget: u32,
+    holder: usize,
+    work: &mut [u16],
+    result: &mut [u16],
+) -> AuthorityResult {
+    // SAFETY: as above; the two buffers are apart.
+    unsafe {
+        lexondar_authority(
+            text.as_ptr(),
+            text.len(),
+            budget,
+            holder,
+            work.as_mut_ptr(),
+            work.len(),
+            result.as_mut_ptr(),
+            result.len(),
+        )
+    }
+}
+
+/// The run of the text's sheet, for at most so many steps, and an entry for
+/// main and for every resource object, ascending, at the start of the result
+/// buffer: the holder, how many it holds, and which.
+pub fn report(text: &[u8], budget: u32, work: &mut [u16], result: &mut [u16]) -> ReportResult {
+    // SAFETY: as above.
+    unsafe {
+        lexondar_report(
+            text.as_ptr(),
+            text.len(),
+            budget,
+            work.as_mut_ptr(),
+            work.len(),
+            result.as_mut_ptr(),
+            result.len(),
         )
     }
 }

@@ -1,12 +1,12 @@
 //! A small program over the library: a sheet on standard input, the answer to
 //! one question on standard output, in the second program's words.
 
-use boundary::{fit, run, verdict, RunResult, WORK};
+use boundary::{authority, fit, run, verdict, RunResult, AUTHORITY, WORK};
 use std::io::Read;
 use std::process::ExitCode;
 
-const USAGE: &str = "usage: boundary verdict | boundary fit A B | boundary run BUDGET  \
-                     (a sheet on standard input)";
+const USAGE: &str = "usage: boundary verdict | boundary fit A B | boundary run BUDGET \
+                     | boundary authority BUDGET HOLDER  (a sheet on standard input)";
 
 fn main() -> ExitCode {
     let words: Vec<String> = std::env::args().skip(1).collect();
@@ -48,8 +48,23 @@ fn answer(words: &[&str], text: &[u8]) -> Option<String> {
                 number => refused(number, given.line),
             })
         }
+        ["authority", budget, holder] => {
+            let (budget, holder) = (budget.parse().ok()?, holder.parse().ok()?);
+            let mut result = [0; AUTHORITY];
+            let given = authority(text, budget, holder, &mut work, &mut result);
+            Some(match given.refusal {
+                0 => holder_line(holder, &result[..given.count as usize]),
+                number => refused(number, given.line),
+            })
+        }
         _ => None,
     }
+}
+
+/// A holder and its authority; the bare holder where that is empty.
+fn holder_line(holder: usize, held: &[u16]) -> String {
+    let held: String = held.iter().map(|object| format!(",{object}")).collect();
+    format!("holder={holder}{held}\n")
 }
 
 fn run_lines(given: RunResult) -> String {

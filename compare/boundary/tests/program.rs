@@ -71,3 +71,26 @@ fn a_budget_of_more_than_32_bits_is_not_taken() {
         assert_eq!(run(&["run", budget], CLERK), "", "{budget}");
     }
 }
+
+#[test]
+fn the_clerk_s_holders() {
+    let cases = [
+        ("8", "256", "holder=256,1,2\n"),
+        ("8", "1", "holder=1,1\n"),
+        ("8", "2", "holder=2,1,2\n"),
+        ("0", "256", "holder=256\n"),
+        ("2", "2", "verdict=11\nline=0\n"),
+        ("8", "0", "verdict=11\nline=0\n"),
+        ("8", "257", "verdict=11\nline=0\n"),
+    ];
+    for (budget, holder, lines) in cases {
+        let answer = run(&["authority", budget, holder], CLERK);
+        assert_eq!(answer, lines, "budget {budget}, holder {holder}");
+    }
+    let short = &CLERK[..CLERK.len() - 1];
+    assert_eq!(
+        run(&["authority", "8", "256"], short),
+        "verdict=3\nline=20\n"
+    );
+    assert_eq!(run(&["authority", "8", "-1"], CLERK), "");
+}

@@ -42,7 +42,7 @@ fn the_clerk_at_the_paper_s_budgets() {
 
 #[test]
 fn the_loop_at_the_paper_s_budgets() {
-    let endless = include_bytes!("../../../examples/loop.sheet");
+    let endless = include_bytes!("../../../examples/stack-full.sheet");
     check(endless, 2, (SPENT, 2, NO_VALUE, 2));
     check(endless, 7, (SPENT, 7, NO_VALUE, 2));
     check(endless, 8, (SPENT, 8, NO_VALUE, 2));

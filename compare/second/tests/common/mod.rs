@@ -6,7 +6,7 @@ use second::{Outcome, Refusal, RunAnswer};
 /// P, the clerk before a scale.
 pub const CLERK: &[u8] = include_bytes!("../../../../examples/clerk.sheet");
 /// L, a method that calls itself for ever.
-pub const LOOP: &[u8] = include_bytes!("../../../../examples/loop.sheet");
+pub const LOOP: &[u8] = include_bytes!("../../../../examples/stack-full.sheet");
 
 /// A sheet written with ` / ` for its line breaks.
 pub fn sheet(lines: &str) -> Vec<u8> {
