@@ -10,3 +10,6 @@ pub mod StoppedLaws
 pub mod SoundLaws
 pub mod BoundsLaws
 pub mod ReadyLaws
+pub mod Counting
+pub mod Lent
+pub mod Lending

@@ -36,9 +36,13 @@ after s (suc n) = stepFrom s (after s n)
 
 -- THE TALLY
 
+-- three counts as a tally (The machine)
+abbrev pub tally : ℕ → ℕ → ℕ → Tally
+tally steps objects frames = record { steps = steps; objects = objects; frames = frames }
+
 -- the counts of a state after n steps (The machine)
 abbrev pub tallyOf : ℕ → State → Tally
-tallyOf n σ = record { steps = n; objects = length (σ .objects); frames = frameCount σ }
+tallyOf n σ = tally n (length (σ .objects)) (frameCount σ)
 
 -- the counts at the start: no step, no object, main's frame (The machine)
 abbrev pub startTally : Tally

@@ -1,21 +1,20 @@
-use native.Mathlib.Numerals.{add-one}
-use borrow.Author.Needs.{needs}
+use contract.Running.{givenOf, tables, tablesOf}
+use denote.Triple.Spec.{tripleOf}
+use denote.Triple.Table.{entered, cited}
+use Rattle.machine_rules.specs.Steps.{created}
+use Rattle.machine_rules.proofs.Counting.{Creates}
+use Rattle.machine_rules.proofs.Lending.{Thin, meets}
+use Rattle.machine_rules.proofs.Tally.add_object.Symbol as callee
+use Rattle.machine_rules.proofs.Tally.add_object.Met as callee-thm
+use Rattle.machine_rules.proofs.Tally.with_object as own
+use Rattle.machine_rules.proofs.Tally.with_object.Key as key
 use Rattle.machine_rules.proofs.Tally.with_object.Statement.{statement}
-use Rattle.machine_rules.proofs.Tally.with_object.Tie as tie
-use Rattle.machine_rules.proofs.Tally.with_object.Reads as reads
-use Rattle.machine_rules.proofs.Tally.with_object.Lts as lts
-
--- src/lib.rt:46:20
-add-t2 : tie.Need-add-t2
-add-t2 c = search needs
-
--- src/lib.rt:47:22
-add-t3 : tie.Need-add-t3
-add-t3 c = search needs
-
--- src/lib.rt:41:5
-returns : tie.Need-returns
-returns c = λ i. record { steps = add-one ((c .before .before .args .self) .steps) i; objects = add-one ((c .before .before .args .self) .objects) i; frames = (c .before .before .args .self) .frames }
+use Rattle.machine_rules.proofs.Tally.with_object.Code as code
 
 pub with-object-spec : {M : Type 1} → statement M
-with-object-spec = tie.close (tie.spec add-t2 add-t3 returns)
+unfolding code.routine tablesOf
+with-object-spec 𝓤 H 𝓜 𝓖 𝓡 =
+    entered 𝓤 H (tripleOf 𝓤 H (𝓖 .A) own.signature (own.spec 𝓤 H (𝓖 .A) (𝓜 .mem) (𝓡 .run)))
+    (tables 𝓤 H 𝓜 𝓡 code.env .C) (tables 𝓤 H 𝓜 𝓡 code.env .Λ) key.name code.function (code.unfolded 𝓤 H 𝓜 𝓡)
+    (meets Creates created 𝓤 H (𝓖 .A) (givenOf 𝓤 H 𝓜 𝓖) callee.name (tablesOf 𝓤 H 𝓜 (tables 𝓤 H 𝓜 𝓡 code.env))
+    (cited 𝓤 H (Thin Creates created 𝓤 H (𝓖 .A)) 𝓜 𝓡 code.env callee.name callee.routine code.calls-machine-rules·Tally·add-object (callee-thm.met 𝓤 H 𝓜 𝓖 𝓡)))

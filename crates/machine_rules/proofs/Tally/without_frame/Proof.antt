@@ -1,26 +1,20 @@
-use Prim.Native.Nat.{_-_, pred}
-use mathlib.Core.Path.{_≡_}
-use native.Mathlib.Omega.{arith}
-use native.Mathlib.Numerals.{add-one}
-use borrow.Author.Needs.{needs}
+use contract.Running.{givenOf, tables, tablesOf}
+use denote.Triple.Spec.{tripleOf}
+use denote.Triple.Table.{entered, cited}
+use Rattle.machine_rules.specs.Steps.{returned}
+use Rattle.machine_rules.proofs.Counting.{Returns}
+use Rattle.machine_rules.proofs.Lending.{Thin, meets}
+use Rattle.machine_rules.proofs.Tally.drop_frame.Symbol as callee
+use Rattle.machine_rules.proofs.Tally.drop_frame.Met as callee-thm
+use Rattle.machine_rules.proofs.Tally.without_frame as own
+use Rattle.machine_rules.proofs.Tally.without_frame.Key as key
 use Rattle.machine_rules.proofs.Tally.without_frame.Statement.{statement}
-use Rattle.machine_rules.proofs.Tally.without_frame.Tie as tie
-use Rattle.machine_rules.proofs.Tally.without_frame.Reads as reads
-use Rattle.machine_rules.proofs.Tally.without_frame.Lts as lts
-
--- src/lib.rt:70:20
-add-t2 : tie.Need-add-t2
-add-t2 c = search needs
-
--- src/lib.rt:72:21
-sub-t3 : tie.Need-sub-t3
-sub-t3 c = search needs
-
--- src/lib.rt:65:5
-returns : tie.Need-returns
-returns c =
-    let less : (c .before .before .args .self) .frames - 1 ≡ pred ((c .before .before .args .self) .frames) = omega arith in
-    λ i. record { steps = add-one ((c .before .before .args .self) .steps) i; objects = (c .before .before .args .self) .objects; frames = less i }
+use Rattle.machine_rules.proofs.Tally.without_frame.Code as code
 
 pub without-frame-spec : {M : Type 1} → statement M
-without-frame-spec = tie.close (tie.spec add-t2 sub-t3 returns)
+unfolding code.routine tablesOf
+without-frame-spec 𝓤 H 𝓜 𝓖 𝓡 =
+    entered 𝓤 H (tripleOf 𝓤 H (𝓖 .A) own.signature (own.spec 𝓤 H (𝓖 .A) (𝓜 .mem) (𝓡 .run)))
+    (tables 𝓤 H 𝓜 𝓡 code.env .C) (tables 𝓤 H 𝓜 𝓡 code.env .Λ) key.name code.function (code.unfolded 𝓤 H 𝓜 𝓡)
+    (meets Returns returned 𝓤 H (𝓖 .A) (givenOf 𝓤 H 𝓜 𝓖) callee.name (tablesOf 𝓤 H 𝓜 (tables 𝓤 H 𝓜 𝓡 code.env))
+    (cited 𝓤 H (Thin Returns returned 𝓤 H (𝓖 .A)) 𝓜 𝓡 code.env callee.name callee.routine code.calls-machine-rules·Tally·drop-frame (callee-thm.met 𝓤 H 𝓜 𝓖 𝓡)))
