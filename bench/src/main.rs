@@ -4,15 +4,19 @@
 mod agree;
 mod answer;
 mod calls;
+mod lua;
+mod peers;
 mod plain;
 mod run_sheets;
 mod runs;
 mod sheets;
 mod threaded;
+mod wasm;
 
 fn main() {
     calls::table();
     println!();
     agree::check();
     runs::table();
+    peers::table();
 }

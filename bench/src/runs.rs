@@ -49,7 +49,10 @@ fn row(name: &str, text: &str, rounds: usize, round: Round) {
     let given = boundary::run(text, u32::MAX, &mut sheet.work);
     let answer = [given.outcome, given.steps, given.value, given.objects];
     let (value, objects) = (wanted.value.into(), wanted.objects.into());
-    assert_eq!(answer, [wanted.outcome as u32, wanted.steps, value, objects]);
+    assert_eq!(
+        answer,
+        [wanted.outcome as u32, wanted.steps, value, objects]
+    );
     let mut best = [f64::INFINITY; 4];
     for _ in 0..rounds {
         for (best, time) in best.iter_mut().zip(round(&mut sheet)) {

@@ -3,8 +3,7 @@
 mod common;
 
 use boundary::{report, ReportResult, REPORT, WORK};
-use common::{budget_for, draw, is_left_clean, is_written, noise};
-use second::authority::{authority_of, holders};
+use common::{budget_for, draw, entries, is_left_clean, is_written, noise};
 use second::machine::Machine;
 use second::{Refusal, RunAnswer};
 
@@ -32,17 +31,6 @@ fn ran(run: RunAnswer, count: usize) -> ReportResult {
         objects: run.objects.into(),
         count: count as u32,
     }
-}
-
-/// Main's entry, then every resource object's.
-fn entries(machine: &Machine) -> Vec<u16> {
-    let mut numbers = Vec::new();
-    for holder in holders(machine) {
-        let held = authority_of(machine, holder.into()).expect("a holder");
-        numbers.extend([holder, held.len() as u16]);
-        numbers.extend(held);
-    }
-    numbers
 }
 
 /// The second program's answer and numbers, and the budget that they are for.

@@ -1,0 +1,88 @@
+/*
+ * Asks all five questions about each sheet of a file, with buffers that are
+ * exactly as long as asked and were never written, so that a memory checker
+ * sees every read of what nobody wrote and every step outside. The file has
+ * each sheet's length in four bytes, low byte first, and then the sheet.
+ * Prints a sum over all answers and all buffers.
+ */
+#include "lexondar.h"
+
+#include <stdio.h>
+#include <stdlib.h>
+
+static uint64_t sum;
+
+static void add(uint32_t number) {
+    sum = sum * 31 + number;
+}
+
+static void *room(size_t bytes) {
+    void *block = malloc(bytes > 0 ? bytes : 1);
+    if (block == NULL)
+        exit(2);
+    return block;
+}
+
+/* After each call: the work buffer is all 0, whatever it was. */
+static void add_work(const uint16_t *work) {
+    for (size_t i = 0; i < LEXONDAR_WORK; i++)
+        if (work[i] != 0)
+            exit(3);
+}
+
+static void add_result(const uint16_t *result, uint32_t count) {
+    for (uint32_t i = 0; i < count; i++)
+        add(result[i]);
+}
+
+static void ask(const uint8_t *text, size_t length, uint32_t budget) {
+    uint16_t *work = room(LEXONDAR_WORK * sizeof *work);
+    uint16_t *held = room(LEXONDAR_AUTHORITY * sizeof *held);
+    uint16_t *all = room(LEXONDAR_REPORT * sizeof *all);
+    struct lexondar_fit_result fit = lexondar_fit(text, length, 1, 0, work, LEXONDAR_WORK);
+    add(fit.refusal + fit.line + fit.fits);
+    add_work(work);
+    struct lexondar_run_result run = lexondar_run(text, length, budget, work, LEXONDAR_WORK);
+    add(run.outcome + run.steps + run.value + run.objects);
+    struct lexondar_authority_result one = lexondar_authority(
+        text, length, budget, LEXONDAR_MAIN, work, LEXONDAR_WORK, held, LEXONDAR_AUTHORITY);
+    add(one.refusal + one.line);
+    add_result(held, one.count);
+    struct lexondar_report_result every =
+        lexondar_report(text, length, budget, work, LEXONDAR_WORK, all, LEXONDAR_REPORT);
+    add(every.steps + every.count);
+    add_result(all, every.count);
+    add_work(work);
+    free(work);
+    free(held);
+    free(all);
+}
+
+/* The verdict in a buffer of its own, which nobody wrote before. */
+static void judge(const uint8_t *text, size_t length) {
+    uint16_t *work = room(LEXONDAR_WORK * sizeof *work);
+    struct lexondar_verdict_result verdict = lexondar_verdict(text, length, work, LEXONDAR_WORK);
+    add(verdict.refusal * 65536 + verdict.line);
+    add_work(work);
+    free(work);
+}
+
+int main(int count, char **words) {
+    FILE *file = count == 2 ? fopen(words[1], "rb") : NULL;
+    if (file == NULL)
+        return 2;
+    uint8_t head[4];
+    while (fread(head, 1, 4, file) == 4) {
+        size_t length = head[0] + 256u * head[1] + 65536u * head[2] + 16777216u * head[3];
+        uint8_t *text = room(length);
+        if (fread(text, 1, length, file) != length)
+            return 2;
+        judge(text, length);
+        ask(text, length, 0);
+        ask(text, length, 300);
+        free(text);
+    }
+    fclose(file);
+    printf("%llu\n", (unsigned long long)sum);
+    return 0;
+}

@@ -1,0 +1,151 @@
+/*
+ * Lexondar: which add-in of a dough-room terminal may touch what.
+ *
+ * Five questions about a sheet. Each takes the sheet's bytes and a work
+ * buffer, keeps neither, allocates nothing, and ends. All that is said here
+ * of answers and buffers is proved, for every text, every number and every
+ * buffer. Link with liblexondar.a (x86-64, System V ABI), which needs nothing
+ * but memset.
+ *
+ * Every pointer is valid for its length, and aligned to its type; the text and
+ * the buffers do not overlap. A pointer of length 0 is not null. These are the
+ * caller's duties, and the only ones. Two calls at a time need two work
+ * buffers.
+ */
+#ifndef LEXONDAR_H
+#define LEXONDAR_H
+
+#include <stddef.h>
+#include <stdint.h>
+
+#ifdef __cplusplus
+extern "C" {
+#endif
+
+/* So many 16-bit numbers a work buffer must have. */
+#define LEXONDAR_WORK 32768
+
+/* So many a result buffer must have, for one holder and for all of them. */
+#define LEXONDAR_AUTHORITY 256
+#define LEXONDAR_REPORT 66306
+
+/* Main's number as a holder; a resource object's is its own, 0 to 255. */
+#define LEXONDAR_MAIN 256
+
+/* The value of a run that is not done. */
+#define LEXONDAR_NO_VALUE 65535
+
+/*
+ * The refusal in every result: 0, or why there is no answer. With it comes the
+ * line at fault, counted from 1; 0 where no line is.
+ */
+enum lexondar_refusal {
+    LEXONDAR_ANSWERED = 0,
+    LEXONDAR_BUFFER_TOO_SHORT = 1, /* work or result buffer; line 0 */
+    LEXONDAR_TEXT_TOO_LONG = 2,    /* over 65,535 bytes; line 0 */
+    LEXONDAR_MALFORMED = 3,        /* a line out of shape, an early end, bytes after main */
+    LEXONDAR_OUT_OF_LIMIT = 4,     /* a count, kind or name; over 1,024 instructions */
+    LEXONDAR_NOT_ASCENDING = 5,    /* member names */
+    LEXONDAR_DUPLICATE_ROW = 6,    /* the row equals an earlier one */
+    LEXONDAR_NOT_DEFINED = 7,      /* a row, form, kept value or slot that is not there */
+    LEXONDAR_IMPURE_FORM = 8,      /* a pure row's form has a field or keeps a resource row */
+    LEXONDAR_NO_SUCH_MEMBER = 9,   /* no such method or field; get or put in main */
+    LEXONDAR_MISFIT = 10,          /* a value does not fit, or a new has not its kept values */
+    LEXONDAR_NO_HOLDER = 11        /* after the run: no such object, or a pure one; line 0 */
+};
+
+/* How a run ended. */
+enum lexondar_outcome {
+    LEXONDAR_DONE = 0,
+    LEXONDAR_SPENT = 1,      /* the budget's steps were taken */
+    LEXONDAR_STORE_FULL = 2, /* the next step is a creation, with 256 objects there */
+    LEXONDAR_STACK_FULL = 3  /* the next step is a call, with 64 frames there */
+};
+
+/*
+ * What every question does to its buffers.
+ *
+ * The work buffer's content at entry has no influence. At return its first
+ * 32,768 numbers are 0 and later ones as they were; but for refusal 1, which
+ * changes no byte of any buffer. A refusal writes nothing to the result
+ * buffer. An answer stands at its start, and later places keep their content.
+ * Fields of a result that are not its refusal or line are 0 when it refuses.
+ */
+
+/* Whether row a fits row b: fits is 1 or 0. Refusals 1 to 7. */
+struct lexondar_fit_result {
+    uint32_t refusal;
+    uint32_t line;
+    uint32_t fits;
+};
+
+struct lexondar_fit_result lexondar_fit(const uint8_t *text, size_t text_len, size_t a, size_t b,
+                                        uint16_t *work, size_t work_len);
+
+/* The verdict: refusal 0 is accepted. Refusals 1 to 10. */
+struct lexondar_verdict_result {
+    uint32_t refusal;
+    uint32_t line;
+};
+
+struct lexondar_verdict_result lexondar_verdict(const uint8_t *text, size_t text_len,
+                                                uint16_t *work, size_t work_len);
+
+/*
+ * The run of an accepted sheet for at most budget steps: its outcome, the
+ * steps taken, main's last slot if it is done, and the number of objects.
+ * Refusals 1 to 10.
+ */
+struct lexondar_run_result {
+    uint32_t refusal;
+    uint32_t line;
+    uint32_t outcome;
+    uint32_t steps;
+    uint32_t value;
+    uint32_t objects;
+};
+
+struct lexondar_run_result lexondar_run(const uint8_t *text, size_t text_len, uint32_t budget,
+                                        uint16_t *work, size_t work_len);
+
+/*
+ * What a holder holds in the state that the run within the budget leaves:
+ * count numbers of resource objects, ascending, at the start of result, which
+ * has at least 256 places. Refusals 1 to 11.
+ */
+struct lexondar_authority_result {
+    uint32_t refusal;
+    uint32_t line;
+    uint32_t count;
+};
+
+struct lexondar_authority_result lexondar_authority(const uint8_t *text, size_t text_len,
+                                                    uint32_t budget, size_t holder,
+                                                    uint16_t *work, size_t work_len,
+                                                    uint16_t *result, size_t result_len);
+
+/*
+ * The run's answer and every holder's authority, from one reading and one run.
+ * The first count numbers of result, which has at least 66,306 places, are an
+ * entry for main and then for each resource object, ascending: the holder, how
+ * many it holds, and which, ascending. Refusals 1 to 10.
+ */
+struct lexondar_report_result {
+    uint32_t refusal;
+    uint32_t line;
+    uint32_t outcome;
+    uint32_t steps;
+    uint32_t value;
+    uint32_t objects;
+    uint32_t count;
+};
+
+struct lexondar_report_result lexondar_report(const uint8_t *text, size_t text_len,
+                                              uint32_t budget, uint16_t *work, size_t work_len,
+                                              uint16_t *result, size_t result_len);
+
+#ifdef __cplusplus
+}
+#endif
+
+#endif

@@ -1,0 +1,188 @@
+//! The questions as a terminal calls them: numbers, and buffers of any length.
+
+/// So many numbers of the work buffer are used.
+pub const WORK: usize = 32_768;
+
+/// So many places of the result buffer an authority asks for.
+pub const AUTHORITY: usize = 256;
+
+/// So many places of the result buffer a report asks for: two and 256 for
+/// main and for each of 256 objects.
+pub const REPORT: usize = 66_306;
+
+/// The fit question's answer: a refusal's number or 0, its line or 0, and 1
+/// for yes.
+#[repr(C)]
+#[derive(Clone, Copy, Debug, PartialEq, Eq)]
+pub struct FitResult {
+    pub refusal: u32,
+    pub line: u32,
+    pub fits: u32,
+}
+
+/// A verdict: a refusal's number or 0, and its line or 0.
+#[repr(C)]
+#[derive(Clone, Copy, Debug, PartialEq, Eq)]
+pub struct VerdictResult {
+    pub refusal: u32,
+    pub line: u32,
+}
+
+/// A run's answer: a refusal's number or 0, its line or 0; of an accepted
+/// sheet the outcome, the steps taken, the value or 65,535, and the number of
+/// objects, of a refused one 0.
+#[repr(C)]
+#[derive(Clone, Copy, Debug, PartialEq, Eq)]
+pub struct RunResult {
+    pub refusal: u32,
+    pub line: u32,
+    pub outcome: u32,
+    pub steps: u32,
+    pub value: u32,
+    pub objects: u32,
+}
+
+/// The authority question's answer: a refusal's number or 0, its line or 0,
+/// and how many numbers were written, of a refused one 0.
+#[repr(C)]
+#[derive(Clone, Copy, Debug, PartialEq, Eq)]
+pub struct AuthorityResult {
+    pub refusal: u32,
+    pub line: u32,
+    pub count: u32,
+}
+
+/// A report: a run's answer, and how many numbers the holders' entries take,
+/// of a refused sheet 0.
+#[repr(C)]
+#[derive(Clone, Copy, Debug, PartialEq, Eq)]
+pub struct ReportResult {
+    pub refusal: u32,
+    pub line: u32,
+    pub outcome: u32,
+    pub steps: u32,
+    pub value: u32,
+    pub objects: u32,
+    pub count: u32,
+}
+
+extern "C" {
+    fn lexondar_fit(
+        text: *const u8,
+        text_len: usize,
+        a: usize,
+        b: usize,
+        work: *mut u16,
+        work_len: usize,
+    ) -> FitResult;
+    fn lexondar_verdict(
+        text: *const u8,
+        text_len: usize,
+        work: *mut u16,
+        work_len: usize,
+    ) -> VerdictResult;
+    fn lexondar_run(
+        text: *const u8,
+        text_len: usize,
+        budget: u32,
+        work: *mut u16,
+        work_len: usize,
+    ) -> RunResult;
+    fn lexondar_authority(
+        text: *const u8,
+        text_len: usize,
+        budget: u32,
+        holder: usize,
+        work: *mut u16,
+        work_len: usize,
+        result: *mut u16,
+        result_len: usize,
+    ) -> AuthorityResult;
+    fn lexondar_report(
+        text: *const u8,
+        text_len: usize,
+        budget: u32,
+        work: *mut u16,
+        work_len: usize,
+        result: *mut u16,
+        result_len: usize,
+    ) -> ReportResult;
+}
+
+/// Whether row a of the text's sheet fits row b.
+pub fn fit(text: &[u8], a: usize, b: usize, work: &mut [u16]) -> FitResult {
+    // SAFETY: both slices are valid for the call, and the library keeps
+    // neither.
+    unsafe {
+        lexondar_fit(
+            text.as_ptr(),
+            text.len(),
+            a,
+            b,
+            work.as_mut_ptr(),
+            work.len(),
+        )
+    }
+}
+
+/// The verdict on the text's sheet.
+pub fn verdict(text: &[u8], work: &mut [u16]) -> VerdictResult {
+    // SAFETY: as above.
+    unsafe { lexondar_verdict(text.as_ptr(), text.len(), work.as_mut_ptr(), work.len()) }
+}
+
+/// The run of the text's sheet, for at most so many steps.
+pub fn run(text: &[u8], budget: u32, work: &mut [u16]) -> RunResult {
+    // SAFETY: as above.
+    unsafe {
+        lexondar_run(
+            text.as_ptr(),
+            text.len(),
+            budget,
+            work.as_mut_ptr(),
+            work.len(),
+        )
+    }
+}
+
+/// The authority of a holder after a run of the text's sheet, for at most so
+/// many steps: ascending, at the start of the result buffer.
+pub fn authority(
+    text: &[u8],
+    budget: u32,
+    holder: usize,
+    work: &mut [u16],
+    result: &mut [u16],
+) -> AuthorityResult {
+    // SAFETY: as above; the two buffers are apart.
+    unsafe {
+        lexondar_authority(
+            text.as_ptr(),
+            text.len(),
+            budget,
+            holder,
+            work.as_mut_ptr(),
+            work.len(),
+            result.as_mut_ptr(),
+            result.len(),
+        )
+    }
+}
+
+/// The run of the text's sheet, for at most so many steps, and an entry for
+/// main and for every resource object, ascending, at the start of the result
+/// buffer: the holder, how many it holds, and which.
+pub fn report(text: &[u8], budget: u32, work: &mut [u16], result: &mut [u16]) -> ReportResult {
+    // SAFETY: as above.
+    unsafe {
+        lexondar_report(
+            text.as_ptr(),
+            text.len(),
+            budget,
+            work.as_mut_ptr(),
+            work.len(),
+            result.as_mut_ptr(),
+            result.len(),
+        )
+    }
+}
