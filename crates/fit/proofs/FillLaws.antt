@@ -7,21 +7,21 @@ use native.Mathlib.Decide.{decLe, ℕ-discrete}
 use mathlib.Core.Path.{_≡_, refl, sym, ap, ap₂, _∙_, subst}
 use mathlib.Core.Bool.{Bool, true, false}
 use mathlib.Core.List.{List}
-use lib.Dec.{eqb}
-use lib.ListN.{length, getD, set, length-set}
+use lib.ListN.{length, getD, set, length-set, List·getD-eq-default}
 use lib.Seq.{getD-set-same, getD-set-other}
-use Rattle.lists.proofs.TabLaws.{getD-tab}
+use Rattle.lists.proofs.InLaws.{in-nil}
+use Rattle.lists.proofs.TabLaws.{getD-tab, length-tab}
 use Rattle.sheet_rules.specs.Answers.{isYes}
 use Rattle.sheet_rules.specs.Sheet.{Row, noRow, rowAt}
-use Rattle.sheet_rules.specs.WellFormed.{LowerRows}
+use Rattle.sheet_rules.specs.WellFormed.{Mentions, LowerRows, WellFormedRow}
 use Rattle.type_rules.specs.Fit.{rowAnswer, fits}
 use Rattle.type_rules.proofs.FitLaws.{Agree, row-agree, fit-rule}
-use Rattle.table.specs.Layout.{rowAddress, fitAddress, tableEnd, slotRowAddress, workSize}
+use Rattle.table.specs.Layout.{fitAddress, tableEnd, slotRowAddress, workSize}
 use Rattle.table.specs.View.{cell, rowIn, rowsIn}
 use Rattle.table.specs.Only.{Only}
 use Rattle.table.proofs.ViewLaws.{only-refl, only-trans, only-set, only→same, rowIn-same}
-use Rattle.table.specs.Ready.{Ready}
-use Rattle.fit.specs.Told.{bit, tells, ruleTells, pairFilled, pairsFilled, rowsFilled, FitFilled}
+use Rattle.fit.specs.Told.{word, saysFirst, saysSecond, tells, tellsBack, Comparable, ruleTells, ruleTellsBack, pairFilled, pairsFilled, rowsFilled, FitFilled}
+use Rattle.fit.proofs.WordLaws.{first-word, second-word}
 
 -- filling changes the fit table alone
 
@@ -33,8 +33,11 @@ pub pair-only : (w : List ℕ) (m k : ℕ) → FitOnly w (pairFilled w m k)
 unfolding pairFilled
 pair-only w m k =
     only-trans
-    (only-set tableEnd (slotRowAddress 0) w (fitAddress m k) (bit (ruleTells w m k)) (omega arith) (omega arith))
-    (only-set tableEnd (slotRowAddress 0) (set w (fitAddress m k) (bit (ruleTells w m k))) (fitAddress k m) (bit (ruleTells w k m)) (omega arith) (omega arith))
+    (only-set tableEnd (slotRowAddress 0) w (fitAddress m k) said (omega arith) (omega arith))
+    (only-set tableEnd (slotRowAddress 0) (set w (fitAddress m k) said) (fitAddress k m) (word (ruleTellsBack w m k) (ruleTells w m k)) (omega arith) (omega arith))
+  where
+    said : ℕ
+    said = word (ruleTells w m k) (ruleTellsBack w m k)
 
 pub pairs-only : (w : List ℕ) (m k : ℕ) → FitOnly w (pairsFilled w m k)
 unfolding pairsFilled
@@ -46,13 +49,13 @@ unfolding rowsFilled
 rows-only w zero = only-refl tableEnd (slotRowAddress 0) w
 rows-only w (suc m) = only-trans (rows-only w m) (pairs-only (rowsFilled w m) m (suc m))
 
--- so a buffer that was ready stays so, for as many rows or fewer
-pub ready-kept : (n m : ℕ) (w w′ : List ℕ) → m ≤ n → Ready n w → FitOnly w w′ → Ready m w′
-ready-kept n m w w′ h r o =
+-- so rows that could be compared stay so, all of them or fewer
+pub comparable-kept : (n m : ℕ) (w w′ : List ℕ) → m ≤ n → Comparable n w → FitOnly w w′ → Comparable m w′
+comparable-kept n m w w′ h r o =
     record {
       size = (let e = o .size in let s = r .size in omega arith);
-      rows = (let s = r .rows in omega arith);
-      few = λ i k. subst (λ (x : ℕ). x ≤ 8) (sym (o .below (rowAddress i + 1) (omega arith))) (r .few i (omega arith));
+      few = (let s = r .few in omega arith);
+      rows = λ i k. subst (WellFormedRow i) (sym (rowIn-same w w′ (only→same tableEnd (slotRowAddress 0) w w′ (omega arith) o) i)) (r .rows i (omega arith));
     }
 
 -- the loops' equations, at the code's sums
@@ -66,20 +69,17 @@ unfolding rowsFilled
 rows-next w m = ap (pairsFilled (rowsFilled w m) m) (add-one m) ∙ ap (rowsFilled w) (sym (add-one m))
 
 -- the two stores of a pair
-pub pair-stored : (w w′ w″ : List ℕ) (m k p q x y : ℕ) (there back : Bool) → there ≡ ruleTells w m k → back ≡ ruleTells w k m
-    → p ≡ fitAddress m k → x ≡ bit there → w′ ≡ set w p x → q ≡ fitAddress k m → y ≡ bit back → w″ ≡ set w′ q y → w″ ≡ pairFilled w m k
+pub pair-stored : (w w′ w″ : List ℕ) (m k p q said back : ℕ) → said ≡ word (ruleTells w m k) (ruleTellsBack w m k)
+    → back ≡ word (ruleTellsBack w m k) (ruleTells w m k) → p ≡ fitAddress m k → w′ ≡ set w p said → q ≡ fitAddress k m → w″ ≡ set w′ q back
+    → w″ ≡ pairFilled w m k
 unfolding pairFilled
-pair-stored w w′ w″ m k p q x y there back t b ep ex e eq ey e′ =
+pair-stored w w′ w″ m k p q said back t b ep e eq e′ =
     e′
-    ∙ ap (λ (v : List ℕ). set v q y) e
-    ∙ ap₂ (λ (i v : ℕ). set (set w i v) q y) ep (ex ∙ ap bit t)
-    ∙ ap₂ (λ (i v : ℕ). set (set w (fitAddress m k) (bit (ruleTells w m k))) i v) eq (ey ∙ ap bit b)
+    ∙ ap (λ (v : List ℕ). set v q back) e
+    ∙ ap₂ (λ (i v : ℕ). set (set w i v) q back) ep t
+    ∙ ap₂ (λ (i v : ℕ). set (set w (fitAddress m k) (word (ruleTells w m k) (ruleTellsBack w m k))) i v) eq b
 
 -- a cell tells what was put there
-
-eqb-bit : (b : Bool) → eqb (bit b) 1 ≡ b
-eqb-bit true = refl
-eqb-bit false = refl
 
 -- two stores: at the first's place stands the first, or the second where both are the same place and number
 set-both : (w : List ℕ) (p q x y : ℕ) → p < length w → (p ≡ q → x ≡ y) → getD (set (set w p x) q y) p 0 ≡ x
@@ -96,24 +96,28 @@ set-neither w p q r x y d e = getD-set-other (set w p x) q r y 0 e ∙ getD-set-
 
 -- which cells are settled: those of the rows below m, and those of row m with the rows below k
 pub record Settled (rows : List Row) (w : List ℕ) (m k : ℕ) : Type 0 where
-  pub lower : (a b : ℕ) → a < m → b < m → cell w (fitAddress a b) ≡ bit (fits rows a b)
-  pub across : (b : ℕ) → b < k → cell w (fitAddress m b) ≡ bit (fits rows m b)
-  pub down : (a : ℕ) → a < k → cell w (fitAddress a m) ≡ bit (fits rows a m)
+  pub lower : (a b : ℕ) → a < m → b < m → cell w (fitAddress a b) ≡ word (fits rows a b) (fits rows b a)
+  pub across : (b : ℕ) → b < k → cell w (fitAddress m b) ≡ word (fits rows m b) (fits rows b m)
+  pub down : (a : ℕ) → a < k → cell w (fitAddress a m) ≡ word (fits rows a m) (fits rows m a)
 
--- the rule's word is right where the rows below are settled
-rule-right : (rows : List Row) → LowerRows rows → (w : List ℕ) (m k a b : ℕ) → Settled rows w m k → a ≤ m → b ≤ m
-    → rowIn w a ≡ rowAt rows a → rowIn w b ≡ rowAt rows b → ruleTells w a b ≡ fits rows a b
+-- the rule's word is right where that on the rows below is
+rule-right : (rows : List Row) → LowerRows rows → (f : ℕ → ℕ → Bool) (w : List ℕ) (m a b : ℕ) → ((x y : ℕ) → x < m → y < m → f x y ≡ fits rows x y)
+    → a ≤ m → b ≤ m → rowIn w a ≡ rowAt rows a → rowIn w b ≡ rowAt rows b → isYes (rowAnswer f (rowIn w a) (rowIn w b)) ≡ fits rows a b
 unfolding fits
-rule-right rows low w m k a b s p q e g =
-    ap₂ (λ (x y : Row). isYes (rowAnswer (tells w) x y)) e g
-    ∙ ap isYes (row-agree (tells w) (fits rows) a b agree (rowAt rows a) (rowAt rows b) (low a) (low b))
+rule-right rows low f w m a b told p q e g =
+    ap₂ (λ (x y : Row). isYes (rowAnswer f x y)) e g
+    ∙ ap isYes (row-agree f (fits rows) a b agree (rowAt rows a) (rowAt rows b) (low a) (low b))
     ∙ ap isYes (sym (fit-rule rows low a b))
   where
-    told : (x y : ℕ) → x < m → y < m → tells w x y ≡ fits rows x y
-    told x y u v = ap (λ (c : ℕ). eqb c 1) (s .lower x y u v) ∙ eqb-bit (fits rows x y)
-
-    agree : Agree (tells w) (fits rows) a b
+    agree : Agree f (fits rows) a b
     agree x y u v = (told x y (omega arith) (omega arith), told y x (omega arith) (omega arith))
+
+-- and where the rows below are settled, either way
+lower-told : (rows : List Row) (w : List ℕ) (m k : ℕ) → Settled rows w m k → (x y : ℕ) → x < m → y < m → tells w x y ≡ fits rows x y
+lower-told rows w m k s x y u v = ap saysFirst (s .lower x y u v) ∙ first-word (fits rows x y) (fits rows y x)
+
+lower-told-back : (rows : List Row) (w : List ℕ) (m k : ℕ) → Settled rows w m k → (x y : ℕ) → x < m → y < m → tellsBack w x y ≡ fits rows x y
+lower-told-back rows w m k s x y u v = ap saysSecond (s .lower y x v u) ∙ second-word (fits rows y x) (fits rows x y)
 
 -- one pair more
 pair-settled : (rows : List Row) → LowerRows rows → (w : List ℕ) (m k : ℕ) → Settled rows w m k → k ≤ m → m < 64 → workSize ≤ length w
@@ -127,35 +131,45 @@ pair-settled rows low w m k s h l z e g =
     }
   where
     there : ruleTells w m k ≡ fits rows m k
-    there = rule-right rows low w m k m k s (omega arith) h e g
+    there = rule-right rows low (tells w) w m m k (lower-told rows w m k s) (omega arith) h e g
 
-    back : ruleTells w k m ≡ fits rows k m
-    back = rule-right rows low w m k k m s h (omega arith) g e
+    back : ruleTellsBack w m k ≡ fits rows k m
+    back = rule-right rows low (tellsBack w) w m k m (lower-told-back rows w m k s) h (omega arith) g e
+
+    said : ℕ
+    said = word (ruleTells w m k) (ruleTellsBack w m k)
+
+    turned : ℕ
+    turned = word (ruleTellsBack w m k) (ruleTells w m k)
 
     w′ : List ℕ
-    w′ = set (set w (fitAddress m k) (bit (ruleTells w m k))) (fitAddress k m) (bit (ruleTells w k m))
+    w′ = set (set w (fitAddress m k) said) (fitAddress k m) turned
 
     other : (a b : ℕ) → (fitAddress a b ≡ fitAddress m k → ⊥) → (fitAddress a b ≡ fitAddress k m → ⊥) → cell w′ (fitAddress a b) ≡ cell w (fitAddress a b)
-    other a b = set-neither w (fitAddress m k) (fitAddress k m) (fitAddress a b) (bit (ruleTells w m k)) (bit (ruleTells w k m))
+    other a b = set-neither w (fitAddress m k) (fitAddress k m) (fitAddress a b) said turned
 
-    same : fitAddress m k ≡ fitAddress k m → bit (ruleTells w m k) ≡ bit (ruleTells w k m)
-    same p = let d : m ≡ k = omega arith in ap₂ (λ (x y : ℕ). bit (ruleTells w x y)) d (sym d)
+    -- a row with itself: both are what fit says
+    same : fitAddress m k ≡ fitAddress k m → said ≡ turned
+    same p =
+        let d : m ≡ k = omega arith in
+        let c : ruleTells w m k ≡ ruleTellsBack w m k = there ∙ ap₂ (fits rows) d (sym d) ∙ sym back in
+        ap₂ word c (sym c)
 
-    across : (b : ℕ) → b < suc k → Dec (suc b ≤ k) → cell w′ (fitAddress m b) ≡ bit (fits rows m b)
+    across : (b : ℕ) → b < suc k → Dec (suc b ≤ k) → cell w′ (fitAddress m b) ≡ word (fits rows m b) (fits rows b m)
     across b p (yes q) = other m b (omega arith) (omega arith) ∙ s .across b q
     across b p (no q) =
         let d : k ≡ b = omega arith in
-        subst (λ (x : ℕ). cell w′ (fitAddress m x) ≡ bit (fits rows m x)) d
-        (set-both w (fitAddress m k) (fitAddress k m) (bit (ruleTells w m k)) (bit (ruleTells w k m)) (omega arith) same ∙ ap bit there)
+        subst (λ (x : ℕ). cell w′ (fitAddress m x) ≡ word (fits rows m x) (fits rows x m)) d
+        (set-both w (fitAddress m k) (fitAddress k m) said turned (omega arith) same ∙ ap₂ word there back)
 
-    down : (a : ℕ) → a < suc k → Dec (suc a ≤ k) → cell w′ (fitAddress a m) ≡ bit (fits rows a m)
+    down : (a : ℕ) → a < suc k → Dec (suc a ≤ k) → cell w′ (fitAddress a m) ≡ word (fits rows a m) (fits rows m a)
     down a p (yes q) = other a m (omega arith) (omega arith) ∙ s .down a q
     down a p (no q) =
         let d : k ≡ a = omega arith in
-        subst (λ (x : ℕ). cell w′ (fitAddress x m) ≡ bit (fits rows x m)) d
-        (getD-set-same (set w (fitAddress m k) (bit (ruleTells w m k))) (fitAddress k m) (bit (ruleTells w k m)) 0
-        (let t : length (set w (fitAddress m k) (bit (ruleTells w m k))) ≡ length w = length-set w (fitAddress m k) (bit (ruleTells w m k)) in omega arith)
-        ∙ ap bit back)
+        subst (λ (x : ℕ). cell w′ (fitAddress x m) ≡ word (fits rows x m) (fits rows m x)) d
+        (getD-set-same (set w (fitAddress m k) said) (fitAddress k m) turned 0
+        (let t : length (set w (fitAddress m k) said) ≡ length w = length-set w (fitAddress m k) said in omega arith)
+        ∙ ap₂ word back there)
 
 -- a row that is done is one of those below the next
 row-settled : (rows : List Row) (w : List ℕ) (m : ℕ) → Settled rows w m (suc m) → Settled rows w (suc m) 0
@@ -166,16 +180,26 @@ row-settled rows w m s =
       down = λ a p. absurd (omega arith);
     }
   where
-    go : (a b : ℕ) → a < suc m → b < suc m → Dec (suc a ≤ m) → Dec (suc b ≤ m) → cell w (fitAddress a b) ≡ bit (fits rows a b)
+    go : (a b : ℕ) → a < suc m → b < suc m → Dec (suc a ≤ m) → Dec (suc b ≤ m) → cell w (fitAddress a b) ≡ word (fits rows a b) (fits rows b a)
     go a b p q (yes u) (yes v) = s .lower a b u v
     go a b p q (yes u) (no v) =
-        let d : m ≡ b = omega arith in subst (λ (x : ℕ). cell w (fitAddress a x) ≡ bit (fits rows a x)) d (s .down a p)
+        let d : m ≡ b = omega arith in subst (λ (x : ℕ). cell w (fitAddress a x) ≡ word (fits rows a x) (fits rows x a)) d (s .down a p)
     go a b p q (no u) v =
-        let d : m ≡ a = omega arith in subst (λ (x : ℕ). cell w (fitAddress x b) ≡ bit (fits rows x b)) d (s .across b q)
+        let d : m ≡ a = omega arith in subst (λ (x : ℕ). cell w (fitAddress x b) ≡ word (fits rows x b) (fits rows b x)) d (s .across b q)
 
 -- the buffer's own rows, all along
 
-module _ (w : List ℕ) (n : ℕ) (r : Ready n w) (low : LowerRows (rowsIn w n)) where
+module _ (w : List ℕ) (n : ℕ) (r : Comparable n w) where
+  -- they mention lower rows: a row that is not there has no members
+  low : LowerRows (rowsIn w n)
+  low a = go (decLe (suc a) n)
+    where
+      go : Dec (suc a ≤ n) → Mentions a ((rowAt (rowsIn w n) a) .members)
+      go (yes h) = subst (λ (b : Row). Mentions a (b .members)) (sym (getD-tab (rowIn w) n a noRow h)) ((r .rows a h) .lower)
+      go (no h) =
+          subst (λ (b : Row). Mentions a (b .members)) (sym (List·getD-eq-default (rowsIn w n) noRow {n = a} (let e : length (rowsIn w n) ≡ n = length-tab (rowIn w) n in omega arith)))
+          (λ x i. absurd (in-nil i))
+
   kept : (v : List ℕ) → FitOnly w v → (a : ℕ) → a < n → rowIn v a ≡ rowAt (rowsIn w n) a
   kept v o a h = rowIn-same w v (only→same tableEnd (slotRowAddress 0) w v (omega arith) o) a ∙ sym (getD-tab (rowIn w) n a noRow h)
 
@@ -185,7 +209,7 @@ module _ (w : List ℕ) (n : ℕ) (r : Ready n w) (low : LowerRows (rowsIn w n))
   pairs-settled v m (suc k) o h l s =
       let u : FitOnly w (pairsFilled v m k) = only-trans o (pairs-only v m k) in
       pair-settled (rowsIn w n) low (pairsFilled v m k) m k (pairs-settled v m k o h (omega arith) s) (omega arith)
-      (let t = r .rows in omega arith)
+      (let t = r .few in omega arith)
       (let t = r .size in let e = u .size in omega arith)
       (kept (pairsFilled v m k) u m h) (kept (pairsFilled v m k) u k (omega arith))
 
@@ -202,4 +226,4 @@ module _ (w : List ℕ) (n : ℕ) (r : Ready n w) (low : LowerRows (rowsIn w n))
 
 -- what a reader of a filled table has: its word is the rule's
 pub filled-tells : (n : ℕ) (w w′ : List ℕ) → FitFilled n w w′ → (a b : ℕ) → a < n → b < n → tells w′ a b ≡ fits (rowsIn w n) a b
-filled-tells n w w′ f a b h k = ap (λ (c : ℕ). eqb c 1) (f .cells a b h k) ∙ eqb-bit (fits (rowsIn w n) a b)
+filled-tells n w w′ f a b h k = ap saysFirst (f .cells a b h k) ∙ first-word (fits (rowsIn w n) a b) (fits (rowsIn w n) b a)

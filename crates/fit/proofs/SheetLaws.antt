@@ -1,32 +1,29 @@
 -- The fit table of a sheet that was read: what filling asks for holds, and what it gives is about the sheet. Assumes nothing.
 use Prim.Native.Nat.{ℕ, _≤_, _<_}
 use native.Mathlib.Omega.{arith}
-use mathlib.Core.Path.{_≡_}
+use mathlib.Core.Path.{_≡_, subst}
 use mathlib.Core.List.{List}
 use lib.ListN.{length}
-use Rattle.lists.proofs.TabLaws.{length-tab}
-use Rattle.sheet_rules.specs.WellFormed.{LowerRows, WellFormed}
+use Rattle.lists.proofs.TabLaws.{length-tab, getD-tab}
+use Rattle.sheet_rules.specs.WellFormed.{WellFormedRow, WellFormed}
+use Rattle.sheet_rules.specs.Sheet.{noRow}
 use Rattle.type_rules.specs.Fit.{fits}
 use Rattle.table.specs.Layout.{rowCountAt, tableEnd, slotRowAddress, workSize}
 use Rattle.table.specs.View.{cell, rowIn, rowsIn, sheetIn}
 use Rattle.table.proofs.ViewLaws.{only→same, sheetIn-same}
-use Rattle.table.proofs.RowLaws.{rows-ready}
-use Rattle.table.specs.Ready.{Ready}
-use Rattle.fit.specs.Told.{tells, FitFilled}
+use Rattle.fit.specs.Told.{tells, Comparable, FitFilled}
 use Rattle.fit.proofs.FillLaws.{filled-tells}
 
 -- what `fill` asks for, of a well-formed sheet in a whole buffer
 
-pub sheet-ready : (w : List ℕ) → workSize ≤ length w → WellFormed (sheetIn w) → Ready (cell w rowCountAt) w
+pub sheet-comparable : (w : List ℕ) → workSize ≤ length w → WellFormed (sheetIn w) → Comparable (cell w rowCountAt) w
 unfolding sheetIn
-sheet-ready w h f =
-    let e : length (rowsIn w (cell w rowCountAt)) ≡ cell w rowCountAt = length-tab (rowIn w) (cell w rowCountAt) in
-    let k = f .fewRows in
-    rows-ready (cell w rowCountAt) w h (omega arith) (f .rows)
-
-pub sheet-lower : (w : List ℕ) → WellFormed (sheetIn w) → LowerRows (rowsIn w (cell w rowCountAt))
-unfolding sheetIn
-sheet-lower w f a = (f .rows a) .lower
+sheet-comparable w h f =
+    record {
+      size = h;
+      few = (let e : length (rowsIn w (cell w rowCountAt)) ≡ cell w rowCountAt = length-tab (rowIn w) (cell w rowCountAt) in let k = f .fewRows in omega arith);
+      rows = λ i l. subst (WellFormedRow i) (getD-tab (rowIn w) (cell w rowCountAt) i noRow l) (f .rows i);
+    }
 
 -- what it gives: the sheet is as it was, and the table tells fit of its rows
 

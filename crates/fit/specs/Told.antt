@@ -1,43 +1,74 @@
 -- What the fit table tells, and the buffer after each step of filling it. Stands on the table's view and on the rule of fit.
-use Prim.Native.Nat.{ℕ, zero, suc, _+_, _≤_, _<_}
+use Prim.Native.Nat.{ℕ, zero, suc, _+_, _/_, _%_, _≤_, _<_}
 use mathlib.Core.Path.{_≡_}
-use mathlib.Core.Bool.{Bool, true, false}
+use mathlib.Core.Bool.{Bool, true, false, _&&_}
 use mathlib.Core.List.{List}
-use lib.Dec.{eqb}
-use lib.ListN.{set}
+use lib.Dec.{T, eqb}
+use lib.ListN.{length, set}
 use Rattle.sheet_rules.specs.declared.Member.{Member}
 use Rattle.sheet_rules.specs.Answers.{isYes}
-use Rattle.type_rules.specs.Fit.{matches, rowAnswer, fits}
-use Rattle.table.specs.Layout.{fitAddress, tableEnd, slotRowAddress}
+use Rattle.sheet_rules.specs.RowLines.{nameOf, mentionsBelow}
+use Rattle.sheet_rules.specs.WellFormed.{WellFormedRow}
+use Rattle.type_rules.specs.Fit.{matches, membersAnswer, rowAnswer, fits}
+use Rattle.table.specs.Layout.{fitAddress, tableEnd, slotRowAddress, workSize}
 use Rattle.table.specs.View.{cell, memberIn, rowIn, rowsIn}
 use Rattle.table.specs.Only.{Only}
 
--- a cell is 1 for fits and 0 for not
-abbrev pub bit : Bool → ℕ
-bit true = 1
-bit false = 0
+-- a word on two things: 1 in it says yes to the first, 2 yes to the second
+abbrev pub word : Bool → Bool → ℕ
+word true true = 3
+word true false = 1
+word false true = 2
+word false false = 0
 
--- the table's word on row a fitting row b
+abbrev pub saysFirst : ℕ → Bool
+saysFirst n = eqb (n % 2) 1
+
+abbrev pub saysSecond : ℕ → Bool
+saysSecond n = saysFirst (n / 2)
+
+-- the table's word on row a fitting row b: the first of the cell (a, b), and the second of the cell (b, a)
 abbrev pub tells : List ℕ → ℕ → ℕ → Bool
-tells w a b = eqb (cell w (fitAddress a b)) 1
+tells w a b = saysFirst (cell w (fitAddress a b))
 
--- none of row i's members from one place on, up to another, is the match of y
-abbrev pub NoMatch : List ℕ → ℕ → Member → ℕ → ℕ → Type 0
-NoMatch w i y from to = (k : ℕ) → from ≤ k → k < to → matches (tells w) (memberIn w i k) y ≡ false
+abbrev pub tellsBack : List ℕ → ℕ → ℕ → Bool
+tellsBack w a b = saysSecond (cell w (fitAddress b a))
 
--- r is the first of row i's members from one place on, up to another, that is the match of y; the latter if there is none
-pub record FirstMatch (w : List ℕ) (i : ℕ) (y : Member) (from to r : ℕ) : Type 0 where
-  pub within : r ≤ to
-  pub before : NoMatch w i y from r
-  pub here : r < to → matches (tells w) (memberIn w i r) y ≡ true
+-- a whole buffer with n rows that were read
+pub record Comparable (n : ℕ) (w : List ℕ) : Type 0 where
+  pub size : workSize ≤ length w
+  pub few : n ≤ 64
+  pub rows : (i : ℕ) → i < n → WellFormedRow i (rowIn w i)
 
--- the rule's word, where the table's is taken for the rows that the members mention
+-- member i of row m and member j of row k are there, have one name, and mention rows that the table has
+pub record MatchAt (w : List ℕ) (m i k j : ℕ) : Type 0 where
+  pub size : workSize ≤ length w
+  pub first : (m < 64) × (i < 8) × T (mentionsBelow 64 (memberIn w m i))
+  pub second : (k < 64) × (j < 8) × T (mentionsBelow 64 (memberIn w k j))
+  pub named : nameOf (memberIn w m i) ≡ nameOf (memberIn w k j)
+
+-- r says whether x is the match of y, and y that of x
+pub record BothMatch (w : List ℕ) (x y : Member) (r : ℕ) : Type 0 where
+  pub first : saysFirst r ≡ matches (tells w) x y
+  pub second : saysSecond r ≡ matches (tellsBack w) y x
+
+-- r keeps of a word on rows m and k what their members allow: that each member of k has its match in m, and the other way round
+pub record Walked (w : List ℕ) (m k before r : ℕ) : Type 0 where
+  pub within : r ≤ before
+  pub first : saysFirst r ≡ (saysFirst before && isYes (membersAnswer (tells w) ((rowIn w m) .members) ((rowIn w k) .members)))
+  pub second : saysSecond r ≡ (saysSecond before && isYes (membersAnswer (tellsBack w) ((rowIn w k) .members) ((rowIn w m) .members)))
+
+-- the rule's word on rows m and k, where the table's is taken for the rows that their members mention
 abbrev pub ruleTells : List ℕ → ℕ → ℕ → Bool
-ruleTells w a b = isYes (rowAnswer (tells w) (rowIn w a) (rowIn w b))
+ruleTells w m k = isYes (rowAnswer (tells w) (rowIn w m) (rowIn w k))
+
+abbrev pub ruleTellsBack : List ℕ → ℕ → ℕ → Bool
+ruleTellsBack w m k = isYes (rowAnswer (tellsBack w) (rowIn w k) (rowIn w m))
 
 -- the cells (m, k) and (k, m) filled
 unfoldable pub pairFilled : List ℕ → ℕ → ℕ → List ℕ
-pairFilled w m k = set (set w (fitAddress m k) (bit (ruleTells w m k))) (fitAddress k m) (bit (ruleTells w k m))
+pairFilled w m k =
+    set (set w (fitAddress m k) (word (ruleTells w m k) (ruleTellsBack w m k))) (fitAddress k m) (word (ruleTellsBack w m k) (ruleTells w m k))
 
 -- the cells of row m with the rows below k filled
 unfoldable pub pairsFilled : List ℕ → ℕ → ℕ → List ℕ
@@ -49,7 +80,7 @@ unfoldable pub rowsFilled : List ℕ → ℕ → List ℕ
 rowsFilled w zero = w
 rowsFilled w (suc m) = pairsFilled (rowsFilled w m) m (suc m)
 
--- the whole table of n rows is filled: each cell tells whether its rows fit, and nothing else is changed
+-- the whole table of n rows is filled: each cell says whether its rows fit, there and back, and nothing else is changed
 pub record FitFilled (n : ℕ) (w w′ : List ℕ) : Type 0 where
   pub only : Only tableEnd (slotRowAddress 0) w w′
-  pub cells : (a b : ℕ) → a < n → b < n → cell w′ (fitAddress a b) ≡ bit (fits (rowsIn w n) a b)
+  pub cells : (a b : ℕ) → a < n → b < n → cell w′ (fitAddress a b) ≡ word (fits (rowsIn w n) a b) (fits (rowsIn w n) b a)

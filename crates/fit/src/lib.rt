@@ -1,15 +1,15 @@
-// The fit table: whether row a fits row b, for every two rows of the sheet in the work buffer, each pair settled once.
+// The fit table: whether row a fits row b, for every two rows of the sheet in the work buffer. Each pair of rows is settled once,
+// in both directions, by one walk along the members of both.
 ghost use mathlib.Core.Path.{_≡_};
 ghost use Prim.Native.Nat.{_≤_, _<_, _+_};
-ghost use lib.Dec.{ltb};
+ghost use lib.Dec.{T};
 ghost use lib.ListN.{length};
-ghost use Rattle.sheet_rules.specs.Answers.{isYes};
-ghost use Rattle.sheet_rules.specs.WellFormed.{LowerRows};
-ghost use Rattle.type_rules.specs.Fit.{matches, hasMatch, membersAnswer};
-ghost use Rattle.table.specs.Layout.{rowAddress, workSize};
-ghost use Rattle.table.specs.View.{cell as cellOf, memberIn, rowIn, rowsIn};
-ghost use Rattle.table.specs.Ready.{Ready};
-ghost use Rattle.fit.specs.Told.{tells, FirstMatch, ruleTells, bit, pairFilled, pairsFilled, FitFilled};
+ghost use Rattle.sheet_rules.specs.RowLines.{nameOf, mentionsBelow};
+ghost use Rattle.sheet_rules.specs.WellFormed.{WellFormedRow};
+ghost use Rattle.type_rules.specs.Fit.{kindFits};
+ghost use Rattle.table.specs.Layout.{fitAddress, workSize};
+ghost use Rattle.table.specs.View.{cell as cellOf, memberIn, rowIn};
+ghost use Rattle.fit.specs.Told.{word, saysFirst, saysSecond, tells, Comparable, MatchAt, BothMatch, Walked, pairFilled, pairsFilled, FitFilled};
 use sheet_rules::Kind;
 use sheet_rules::Member;
 use table::rows::wide;
@@ -20,147 +20,150 @@ pub fn fits_in(work: &[u16], a: usize, b: usize) -> bool
     ensures { λ r. ⌜ r ≡ tells (now (work .entry)) a b ⌝ }
 {
     let at = table::rows::fit_address(a, b);
-    work[at] == 1
+    work[at] % 2 == 1
 }
 
-// Member x of one row is the match of member y of another.
-fn member_matches(work: &[u16], x: Member, y: Member) -> bool
-    requires { ⌜ workSize ≤ length (now work) ⌝ }
-    ensures { λ r. ⌜ r ≡ matches (tells (now (work .entry))) x y ⌝ }
+// The cell of rows a and b.
+fn cell_of(work: &[u16], a: u16, b: u16) -> u16
+    requires { ⌜ (a < 64) × (b < 64) × (workSize ≤ length (now work)) ⌝ }
+    ensures { λ r. ⌜ r ≡ cellOf (now (work .entry)) (fitAddress a b) ⌝ }
+{
+    let at = table::rows::fit_place(wide(a), wide(b));
+    work[at]
+}
+
+// Whether member x of a row is the match of member y of another, and y that of x, where they have one name. Arguments are
+// compared the other way round than results.
+fn both_match(work: &[u16], x: Member, y: Member) -> u16
+    requires { ⌜ T (mentionsBelow 64 x) × T (mentionsBelow 64 y) × (nameOf x ≡ nameOf y) × (workSize ≤ length (now work)) ⌝ }
+    ensures { λ r. ⌜ BothMatch (now (work .entry)) x y r ⌝ }
 {
     match x {
         Member::Method {
-            name: n,
+            name: _,
             argument: a,
             result: r,
         } => match y {
             Member::Method {
-                name: m,
+                name: _,
                 argument: b,
                 result: s,
-            } => {
-                if n != m {
-                    return false;
-                }
-                if !fits_in(work, wide(b), wide(a)) {
-                    return false;
-                }
-                fits_in(work, wide(r), wide(s))
-            }
-            Member::Field { .. } => false,
+            } => cell_of(work, b, a) & cell_of(work, r, s),
+            Member::Field { name: _, row: _ } => 0,
         },
-        Member::Field { name: n, row: r } => match y {
-            Member::Method { .. } => false,
-            Member::Field { name: m, row: s } => {
-                if n != m {
-                    return false;
+        Member::Field { name: _, row: r } => match y {
+            Member::Method {
+                name: _,
+                argument: _,
+                result: _,
+            } => 0,
+            Member::Field { name: _, row: s } => {
+                if r == s {
+                    return 3;
                 }
-                r == s
+                0
             }
         },
     }
 }
 
-// The first member of row a that is the match of member j of row b, from a place on and up to another; the latter if there is
-// none.
-fn match_between(work: &[u16], a: usize, b: usize, j: usize, from: usize, to: usize) -> usize
-    requires { ⌜ (a < 64) × (b < 64) × (j < 8) × (from ≤ to) × (to ≤ 8) × (workSize ≤ length (now work)) ⌝ }
-    ensures { λ r. ⌜ FirstMatch (now (work .entry)) a (memberIn (now (work .entry)) b j) from to r ⌝ }
+// The same for member i of row m and member j of row k.
+fn match_at(work: &[u16], m: usize, i: usize, k: usize, j: usize) -> u16
+    requires { ⌜ MatchAt (now work) m i k j ⌝ }
+    ensures { λ r. ⌜ BothMatch (now (work .entry)) (memberIn (now (work .entry)) m i) (memberIn (now (work .entry)) k j) r ⌝ }
 {
-    let mut i = from;
-    while i < to {
-        if member_matches(
-            work,
-            table::rows::member(work, a, i),
-            table::rows::member(work, b, j),
-        ) {
-            return i;
-        }
-        i = i + 1;
-    }
-    to
+    let x = table::rows::member(work, m, i);
+    let y = table::rows::member(work, k, j);
+    both_match(work, x, y)
 }
 
-// A member of row a that is the match of member j of row b, or the number of a's members. The search begins at a place, and
-// goes round to it: as names ascend, the place after the last match is near to the next one.
-fn place_of(work: &[u16], a: usize, b: usize, j: usize, start: usize) -> usize
-    requires { ⌜ (a < 64) × (b < 64) × (j < 8) × (workSize ≤ length (now work)) × (cellOf (now work) (rowAddress a + 1) ≤ 8) × (start ≤ cellOf (now work) (rowAddress a + 1)) ⌝ }
-    ensures { λ r. ⌜ ltb r (cellOf (now (work .entry)) (rowAddress a + 1)) ≡ hasMatch (tells (now (work .entry))) ((rowIn (now (work .entry)) a) .members) (memberIn (now (work .entry)) b j) ⌝ }
+// What is left of the kinds' word on rows m and k once their members are compared. Names ascend in both rows, so one walk is
+// enough: a member of the lower name is one that the other row lacks.
+fn walk(work: &[u16], m: usize, k: usize, kinds: u16) -> u16
+    requires { ⌜ (m < 64) × (k < 64) × WellFormedRow m (rowIn (now work) m) × WellFormedRow k (rowIn (now work) k) × (workSize ≤ length (now work)) ⌝ }
+    ensures { λ r. ⌜ Walked (now (work .entry)) m k kinds r ⌝ }
 {
-    let count = table::rows::member_count(work, a);
-    let after = match_between(work, a, b, j, start, count);
-    if after < count {
-        return after;
-    }
-    let before = match_between(work, a, b, j, 0, start);
-    if before < start {
-        return before;
-    }
-    count
-}
-
-// Each member of row b has its match in row a.
-fn members_fit(work: &[u16], a: usize, b: usize) -> bool
-    requires { ⌜ (a < 64) × (b < 64) × (workSize ≤ length (now work)) × (cellOf (now work) (rowAddress a + 1) ≤ 8) × (cellOf (now work) (rowAddress b + 1) ≤ 8) ⌝ }
-    ensures { λ r. ⌜ r ≡ isYes (membersAnswer (tells (now (work .entry))) ((rowIn (now (work .entry)) a) .members) ((rowIn (now (work .entry)) b) .members)) ⌝ }
-{
-    let there = table::rows::member_count(work, a);
-    let count = table::rows::member_count(work, b);
-    let mut start: usize = 0;
+    let across = table::rows::member_count(work, m);
+    let down = table::rows::member_count(work, k);
+    let mut left = kinds;
+    let mut i: usize = 0;
     let mut j: usize = 0;
-    while j < count {
-        let place = place_of(work, a, b, j, start);
-        if there <= place {
-            return false;
-        }
-        start = place + 1;
-        j = j + 1;
-    }
-    true
-}
-
-// Row a fits row b, by the table's word on the rows that their members mention: kinds first, then members.
-fn row_fits(work: &[u16], a: usize, b: usize) -> bool
-    requires { ⌜ (a < 64) × (b < 64) × (workSize ≤ length (now work)) × (cellOf (now work) (rowAddress a + 1) ≤ 8) × (cellOf (now work) (rowAddress b + 1) ≤ 8) ⌝ }
-    ensures { λ r. ⌜ r ≡ ruleTells (now (work .entry)) a b ⌝ }
-{
-    let k = table::rows::row_kind(work, a);
-    match k {
-        Kind::Pure => members_fit(work, a, b),
-        Kind::Resource => {
-            let l = table::rows::row_kind(work, b);
-            match l {
-                Kind::Pure => false,
-                Kind::Resource => members_fit(work, a, b),
+    while left != 0 {
+        if across <= i {
+            if down <= j {
+                return left;
             }
+            return left & 2;
         }
-    }
-}
-
-// A cell's number: 1 for fits, 0 for not.
-fn bit_of(b: bool) -> u16
-    ensures { λ r. ⌜ r ≡ bit b ⌝ }
-{
-    if b {
-        return 1;
+        if down <= j {
+            return left & 1;
+        }
+        let x = table::rows::member_name(work, m, i);
+        let y = table::rows::member_name(work, k, j);
+        if x < y {
+            left = left & 1;
+            i = i + 1;
+            continue;
+        }
+        if y < x {
+            left = left & 2;
+            j = j + 1;
+            continue;
+        }
+        left = left & match_at(work, m, i, k, j);
+        i = i + 1;
+        j = j + 1;
     }
     0
 }
 
+// Whether row m may fit row k by their kinds, and k m.
+fn kinds_fit(work: &[u16], m: usize, k: usize) -> u16
+    requires { ⌜ (m < 64) × (k < 64) × (workSize ≤ length (now work)) ⌝ }
+    ensures { λ r. ⌜ r ≡ word (kindFits ((rowIn (now (work .entry)) m) .kind) ((rowIn (now (work .entry)) k) .kind)) (kindFits ((rowIn (now (work .entry)) k) .kind) ((rowIn (now (work .entry)) m) .kind)) ⌝ }
+{
+    let a = table::rows::row_kind(work, m);
+    let b = table::rows::row_kind(work, k);
+    match a {
+        Kind::Pure => match b {
+            Kind::Pure => 3,
+            Kind::Resource => 1,
+        },
+        Kind::Resource => match b {
+            Kind::Pure => 2,
+            Kind::Resource => 3,
+        },
+    }
+}
+
+// A word on two rows, as one on the same rows the other way round.
+fn turn(said: u16) -> u16
+    requires { ⌜ said ≤ 3 ⌝ }
+    ensures { λ r. ⌜ r ≡ word (saysSecond said) (saysFirst said) ⌝ }
+{
+    if said == 1 {
+        return 2;
+    }
+    if said == 2 {
+        return 1;
+    }
+    said
+}
+
 // Fills the cells (m, k) and (k, m).
 fn fill_pair(work: &mut [u16], m: usize, k: usize)
-    requires { ⌜ (k ≤ m) × Ready (m + 1) (now work) ⌝ }
+    requires { ⌜ (k ≤ m) × Comparable (m + 1) (now work) ⌝ }
     ensures { λ r. ⌜ now (work .exit) ≡ pairFilled (now (work .entry)) m k ⌝ }
 {
-    let there = row_fits(work, m, k);
-    let back = row_fits(work, k, m);
-    table::put(work, table::rows::fit_address(m, k), bit_of(there));
-    table::put(work, table::rows::fit_address(k, m), bit_of(back));
+    let kinds = kinds_fit(work, m, k);
+    let said = walk(work, m, k, kinds);
+    table::put(work, table::rows::fit_place(m, k), said);
+    table::put(work, table::rows::fit_place(k, m), turn(said));
 }
 
 // Fills the cells of row m with itself and the rows below it.
 fn fill_row(work: &mut [u16], m: usize)
-    requires { ⌜ Ready (m + 1) (now work) ⌝ }
+    requires { ⌜ Comparable (m + 1) (now work) ⌝ }
     ensures { λ r. ⌜ now (work .exit) ≡ pairsFilled (now (work .entry)) m (m + 1) ⌝ }
 {
     let mut k: usize = 0;
@@ -172,7 +175,7 @@ fn fill_row(work: &mut [u16], m: usize)
 
 // Fills the cells of the rows that the buffer holds.
 pub fn fill(work: &mut [u16], rows: usize)
-    requires { ⌜ Ready rows (now work) × LowerRows (rowsIn (now work) rows) ⌝ }
+    requires { ⌜ Comparable rows (now work) ⌝ }
     ensures { λ r. ⌜ FitFilled rows (now (work .entry)) (now (work .exit)) ⌝ }
 {
     let mut m: usize = 0;

@@ -2,8 +2,9 @@
 use Prim.Native.Nat.{ℕ, zero, suc, _+_, _*_, _≤_, _<_}
 use native.Mathlib.Omega.{arith}
 use mathlib.Core.Path.{_≡_, refl, sym, ap, _∙_, subst}
-use mathlib.Core.Bool.{Bool, cond}
+use mathlib.Core.Bool.{Bool, true, false, cond}
 use mathlib.Core.List.{List}
+use lib.Dec.{eqb}
 use lib.ListN.{length, getD}
 use borrow.Author.Tests.{eq-eqb, ne-eqb}
 use Rattle.lists.proofs.TabLaws.{length-tab, getD-tab}
@@ -12,7 +13,7 @@ use Rattle.sheet_rules.specs.declared.Member.the-variants.{Method, Field}
 use Rattle.sheet_rules.specs.Limits.{memberLimit}
 use Rattle.sheet_rules.specs.Sheet.{Row, noRow, noMember, rowAt}
 use Rattle.sheet_rules.specs.WellFormed.{WellFormedRow}
-use Rattle.sheet_rules.specs.RowLines.{kindOf}
+use Rattle.sheet_rules.specs.RowLines.{kindOf, nameOf}
 use Rattle.table.specs.Layout.{rowCountAt, rowAddress, memberAddress, workSize}
 use Rattle.table.specs.View.{cell, memberFrom, memberIn, rowIn, rowsIn, sheetIn}
 use Rattle.table.specs.Only.{Only}
@@ -62,6 +63,20 @@ module _ (w : List ℕ) (i j : ℕ) (h : i < 64) (k : j < 8) where
     where
       at : ℕ
       at = 16 + 36 * i + (4 + 4 * j)
+
+  -- member_name: the name stands at one place, whatever the member's kind
+  pub member-name : cell w (16 + 36 * i + (4 + 4 * j) + 1) ≡ nameOf (memberIn w i j)
+  unfolding memberIn
+  member-name =
+      ap (λ (n : ℕ). cell w (n + 1)) (member-address i j h k)
+      ∙ go (eqb (cell w (memberAddress i j)) 0)
+    where
+      at : ℕ
+      at = memberAddress i j
+
+      go : (b : Bool) → cell w (at + 1) ≡ nameOf (cond b (Method (cell w (at + 1)) (cell w (at + 2)) (cell w (at + 3))) (Field (cell w (at + 1)) (cell w (at + 2))))
+      go true = refl
+      go false = refl
 
 -- the list of a row's members: how many they are, and which stands where
 

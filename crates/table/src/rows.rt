@@ -5,6 +5,7 @@ ghost use lib.ListN.{length};
 ghost use Rattle.table.specs.Layout.{rowCountAt, rowAddress, memberAddress, fitAddress, workSize};
 ghost use Rattle.table.specs.View.{cell as cellOf, memberIn, rowIn, sheetIn};
 ghost use Rattle.table.specs.Whole.{Whole};
+ghost use Rattle.sheet_rules.specs.RowLines.{nameOf};
 ghost use Rattle.sheet_rules.specs.Sheet.{rowAt};
 use sheet_rules::Kind;
 use sheet_rules::Member;
@@ -85,6 +86,15 @@ pub fn member(work: &[u16], i: usize, j: usize) -> Member
     Member::Field { name, row: first }
 }
 
+// The name of member j of row i.
+pub fn member_name(work: &[u16], i: usize, j: usize) -> u16
+    requires { ⌜ (i < 64) × (j < 8) × (workSize ≤ length (now work)) ⌝ }
+    ensures { λ r. ⌜ r ≡ nameOf (memberIn (now (work .entry)) i j) ⌝ }
+{
+    let at = 16 + 36 * i + (4 + 4 * j);
+    work[at + 1]
+}
+
 // A row number, within the fit table's 64.
 fn within_rows(i: usize) -> usize
     ensures { λ r. ⌜ r ≡ min i 63 ⌝ }
@@ -100,6 +110,14 @@ pub fn fit_address(a: usize, b: usize) -> usize
     ensures { λ r. ⌜ r ≡ fitAddress a b ⌝ }
 {
     15888 + (64 * within_rows(a) + within_rows(b))
+}
+
+// The same for rows that are known to be there.
+pub fn fit_place(a: usize, b: usize) -> usize
+    requires { ⌜ (a < 64) × (b < 64) ⌝ }
+    ensures { λ r. ⌜ r ≡ fitAddress a b ⌝ }
+{
+    15888 + (64 * a + b)
 }
 
 // Where member j of row i stands.

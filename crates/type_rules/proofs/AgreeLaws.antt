@@ -32,7 +32,7 @@ looked-up P xs d p h k = go (decLe (suc k) (length xs))
 both-below : (k a r : ℕ) → T (ltb a k && ltb r k) → (a < k) × (r < k)
 both-below k a r t = (ltb→lt a k (and-left (ltb a k) (ltb r k) t), ltb→lt r k (and-right (ltb a k) (ltb r k) t))
 
-mentions-more : (i k : ℕ) → i ≤ k → (x : Member) → T (mentionsBelow i x) → T (mentionsBelow k x)
+pub mentions-more : (i k : ℕ) → i ≤ k → (x : Member) → T (mentionsBelow i x) → T (mentionsBelow k x)
 mentions-more i k h (Method n a r) t =
     let p = both-below i a r t in
     and-intro (ltb a k) (ltb r k) (lt→ltb a k (omega arith)) (lt→ltb r k (omega arith))

@@ -11,14 +11,13 @@ use Rattle.sheet_rules.specs.declared.Reason.the-variants.{BufferTooShort}
 use Rattle.sheet_rules.specs.declared.Verdict.{Verdict}
 use Rattle.sheet_rules.specs.Sheet.{Sheet}
 use Rattle.sheet_rules.specs.Reading.{Meaning, readable, unreadable, meaning}
-use Rattle.sheet_rules.specs.WellFormed.{WellFormed, LowerRows}
+use Rattle.sheet_rules.specs.WellFormed.{WellFormed}
 use Rattle.type_rules.specs.Fit.{fits}
 use Rattle.type_rules.specs.Typing.{Fault, lineFaults, firstFormLine, firstFault, typing, verdictOn, verdict}
 use Rattle.type_rules.proofs.AgreeLaws.{faults-agree}
 use Rattle.table.specs.Layout.{rowCountAt, tableEnd, slotRowAddress, workSize}
-use Rattle.table.specs.View.{cell, rowsIn, sheetIn}
+use Rattle.table.specs.View.{cell, sheetIn}
 use Rattle.table.specs.Only.{Only}
-use Rattle.table.specs.Ready.{Ready}
 use Rattle.table.specs.Whole.{Whole}
 use Rattle.table.proofs.ViewLaws.{SameTable, only-trans, only-widen}
 use Rattle.table.proofs.PoolLaws.{placed-same}
@@ -26,8 +25,8 @@ use Rattle.table.proofs.RowLaws.{rows-length}
 use Rattle.reader.specs.Reads.{verdictMeans, SheetRead}
 use Rattle.reader.proofs.MainLaws.{not-accepted}
 use Rattle.reader.proofs.SheetLaws.{read-means, read-wellFormed}
-use Rattle.fit.specs.Told.{tells, FitFilled}
-use Rattle.fit.proofs.SheetLaws.{sheet-ready, sheet-lower, filled-sheet, sheet-tells}
+use Rattle.fit.specs.Told.{tells, Comparable, FitFilled}
+use Rattle.fit.proofs.SheetLaws.{sheet-comparable, filled-sheet, sheet-tells}
 use Rattle.code_typing.proofs.CodeLaws.{slots-sheet}
 use Rattle.typing.specs.Told.{SheetJudged}
 use Rattle.clear.specs.Answer.{Answered}
@@ -68,11 +67,8 @@ module _ (text w w₁ : List ℕ) (v : Verdict) (size : workSize ≤ length w) (
     size₁ : workSize ≤ length w₁
     size₁ = omega (arith, s .only .size)
 
-    pub fill-ready : (rows : ℕ) → rows ≡ cell w₁ rowCountAt → Ready rows w₁
-    fill-ready rows n = subst (λ (k : ℕ). Ready k w₁) (sym n) (sheet-ready w₁ size₁ well)
-
-    pub fill-lower : (rows : ℕ) → rows ≡ cell w₁ rowCountAt → LowerRows (rowsIn w₁ rows)
-    fill-lower rows n = subst (λ (k : ℕ). LowerRows (rowsIn w₁ k)) (sym n) (sheet-lower w₁ well)
+    pub fill-comparable : (rows : ℕ) → rows ≡ cell w₁ rowCountAt → Comparable rows w₁
+    fill-comparable rows n = subst (λ (k : ℕ). Comparable k w₁) (sym n) (sheet-comparable w₁ size₁ well)
 
     -- with the fit table filled
     module _ (rows : ℕ) (rows-are : rows ≡ cell w₁ rowCountAt) (w₂ : List ℕ) (f : FitFilled rows w₁ w₂) where

@@ -3,9 +3,8 @@ use native.Mathlib.Omega.{arith}
 use mathlib.Core.Path.{_≡_, refl, sym, ap, _∙_, subst}
 use mathlib.Core.List.{List}
 use lib.ListN.{length}
-use Rattle.table.specs.Ready.{Ready}
-use Rattle.fit.specs.Told.{pairsFilled, rowsFilled, FitFilled}
-use Rattle.fit.proofs.FillLaws.{rows-only, ready-kept, rows-next, all-filled}
+use Rattle.fit.specs.Told.{Comparable, pairsFilled, rowsFilled, FitFilled}
+use Rattle.fit.proofs.FillLaws.{rows-only, comparable-kept, rows-next, all-filled}
 use Rattle.fit.proofs.fill.Statement.{statement}
 use Rattle.fit.proofs.fill.Tie as tie
 
@@ -23,8 +22,8 @@ loop-holds c = (omega arith, refl)
 -- src/lib.rt:144:9
 fill-row-requires : tie.Need-fill-row-requires Inv-loop μ-loop
 fill-row-requires c κs =
-    subst (λ (v : List ℕ). Ready (c .before .before .loop .m + 1) v) (sym (c .before .before .loop .inv .1))
-    (ready-kept (c .before .before .before .before .args .rows) (c .before .before .loop .m + 1) (c .before .before .before .before .args .work .now) (rowsFilled (c .before .before .before .before .args .work .now) (c .before .before .loop .m)) (omega arith) (c .before .before .before .before .pre .0) (rows-only (c .before .before .before .before .args .work .now) (c .before .before .loop .m)))
+    subst (λ (v : List ℕ). Comparable (c .before .before .loop .m + 1) v) (sym (c .before .before .loop .inv .1))
+    (comparable-kept (c .before .before .before .before .args .rows) (c .before .before .loop .m + 1) (c .before .before .before .before .args .work .now) (rowsFilled (c .before .before .before .before .args .work .now) (c .before .before .loop .m)) (omega arith) (c .before .before .before .before .pre) (rows-only (c .before .before .before .before .args .work .now) (c .before .before .loop .m)))
 
 -- src/lib.rt:145:13
 add-m : tie.Need-add-m Inv-loop μ-loop
@@ -52,7 +51,7 @@ returns : tie.Need-returns Inv-loop μ-loop
 returns c =
     subst (λ (v : List ℕ). FitFilled (c .before .before .before .args .rows) (c .before .before .before .args .work .now) v)
     (sym (c .before .loop .inv .1 ∙ ap (rowsFilled (c .before .before .before .args .work .now)) (omega arith)))
-    (all-filled (c .before .before .before .args .work .now) (c .before .before .before .args .rows) (c .before .before .before .pre .0) (c .before .before .before .pre .1))
+    (all-filled (c .before .before .before .args .work .now) (c .before .before .before .args .rows) (c .before .before .before .pre))
 
 pub fill-spec : {M : Type 1} → statement M
 fill-spec =

@@ -3,9 +3,8 @@ use native.Mathlib.Omega.{arith}
 use mathlib.Core.Path.{_≡_, refl, sym, ap, _∙_, subst}
 use mathlib.Core.List.{List}
 use lib.ListN.{length}
-use Rattle.table.specs.Ready.{Ready}
-use Rattle.fit.specs.Told.{pairFilled, pairsFilled}
-use Rattle.fit.proofs.FillLaws.{pairs-only, ready-kept, pairs-next}
+use Rattle.fit.specs.Told.{Comparable, pairFilled, pairsFilled}
+use Rattle.fit.proofs.FillLaws.{pairs-only, comparable-kept, pairs-next}
 use Rattle.fit.proofs.fill_row.Statement.{statement}
 use Rattle.fit.proofs.fill_row.Tie as tie
 
@@ -24,13 +23,13 @@ loop-holds c = (omega arith, refl)
 fill-pair-requires : tie.Need-fill-pair-requires Inv-loop μ-loop
 fill-pair-requires c κs = (
   c .before .loop-test .taken,
-  subst (λ (v : List ℕ). Ready (c .before .before .before .before .args .m + 1) v) (sym (c .before .before .loop .inv .1))
-      (ready-kept (c .before .before .before .before .args .m + 1) (c .before .before .before .before .args .m + 1) (c .before .before .before .before .args .work .now) (pairsFilled (c .before .before .before .before .args .work .now) (c .before .before .before .before .args .m) (c .before .before .loop .k)) (omega arith) (c .before .before .before .before .pre) (pairs-only (c .before .before .before .before .args .work .now) (c .before .before .before .before .args .m) (c .before .before .loop .k))),
+  subst (λ (v : List ℕ). Comparable (c .before .before .before .before .args .m + 1) v) (sym (c .before .before .loop .inv .1))
+      (comparable-kept (c .before .before .before .before .args .m + 1) (c .before .before .before .before .args .m + 1) (c .before .before .before .before .args .work .now) (pairsFilled (c .before .before .before .before .args .work .now) (c .before .before .before .before .args .m) (c .before .before .loop .k)) (omega arith) (c .before .before .before .before .pre) (pairs-only (c .before .before .before .before .args .work .now) (c .before .before .before .before .args .m) (c .before .before .loop .k))),
 )
 
 -- src/lib.rt:133:13
 add-k : tie.Need-add-k Inv-loop μ-loop
-add-k c = let r = c .before .before .before .before .before .before .before .pre .rows in omega arith
+add-k c = let r = c .before .before .before .before .before .before .before .pre .few in omega arith
 
 -- src/lib.rt:131:5
 loop-less : tie.Need-loop-less Inv-loop μ-loop

@@ -1,11 +1,9 @@
 use mathlib.Core.Path.{sym, _∙_, subst}
 use mathlib.Core.Bool.{true, false}
 use Prim.Native.Nat.{ℕ}
-use Rattle.sheet_rules.specs.WellFormed.{LowerRows}
-use Rattle.table.specs.View.{rowsIn}
-use Rattle.table.specs.Ready.{Ready}
 use Rattle.table.proofs.RowLaws.{rows-length}
-use Rattle.fit.proofs.SheetLaws.{sheet-ready, sheet-lower}
+use Rattle.fit.specs.Told.{Comparable}
+use Rattle.fit.proofs.SheetLaws.{sheet-comparable}
 use Rattle.fit_question.proofs.AskedLaws.{no-row-a, no-row-b, fit-told}
 use borrow.Author.Needs.{needs}
 use Rattle.fit_question.proofs.reply_in.Statement.{statement}
@@ -38,10 +36,9 @@ returns-2 c = no-row-b (c .before .before .before .before .before .args .a) (c .
 
 -- src/lib.rt:31:5
 fill-requires : tie.Need-fill-requires
-fill-requires c κs = (
-  subst (λ (n : ℕ). Ready n (c .before .before .before .before .before .before .args .work .now)) (sym (c .before .before .before .row-count .ensures)) (sheet-ready (c .before .before .before .before .before .before .args .work .now) (c .before .before .before .before .before .before .pre .0) (c .before .before .before .before .before .before .pre .1)),
-  subst (λ (n : ℕ). LowerRows (rowsIn (c .before .before .before .before .before .before .args .work .now) n)) (sym (c .before .before .before .row-count .ensures)) (sheet-lower (c .before .before .before .before .before .before .args .work .now) (c .before .before .before .before .before .before .pre .1)),
-)
+fill-requires c κs =
+    subst (λ (n : ℕ). Comparable n (c .before .before .before .before .before .before .args .work .now)) (sym (c .before .before .before .row-count .ensures))
+    (sheet-comparable (c .before .before .before .before .before .before .args .work .now) (c .before .before .before .before .before .before .pre .0) (c .before .before .before .before .before .before .pre .1))
 
 -- src/lib.rt:32:8
 fits-in-requires : tie.Need-fits-in-requires

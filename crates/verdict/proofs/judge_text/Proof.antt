@@ -1,4 +1,4 @@
-use Rattle.verdict.proofs.JudgeLaws.{text-refused, fill-ready, fill-lower, filled-whole, text-judged}
+use Rattle.verdict.proofs.JudgeLaws.{text-refused, fill-comparable, filled-whole, text-judged}
 use borrow.Author.Needs.{needs}
 use Rattle.verdict.proofs.judge_text.Statement.{statement}
 use Rattle.verdict.proofs.judge_text.Tie as tie
@@ -34,10 +34,8 @@ row-count-requires c κs = search needs
 
 -- src/lib.rt:19:5
 fill-requires : tie.Need-fill-requires
-fill-requires c κs = (
-  fill-ready (c .before .before .before .before .before .before .before .before .before .before .before .args .text .now) (c .before .before .before .before .before .before .before .before .before .before .before .args .work .now) (c .before .before .before .before .before .before .before .read-sheet .last .1 .0) (c .before .before .before .before .before .before .before .read-sheet .result) (c .before .before .before .before .before .before .before .before .before .before .before .pre) (c .before .before .before .before .before .before .before .read-sheet .ensures) (c .before .before .before .enum-told .given .1) (c .before .row-count .result) (c .before .row-count .ensures),
-  fill-lower (c .before .before .before .before .before .before .before .before .before .before .before .args .text .now) (c .before .before .before .before .before .before .before .before .before .before .before .args .work .now) (c .before .before .before .before .before .before .before .read-sheet .last .1 .0) (c .before .before .before .before .before .before .before .read-sheet .result) (c .before .before .before .before .before .before .before .before .before .before .before .pre) (c .before .before .before .before .before .before .before .read-sheet .ensures) (c .before .before .before .enum-told .given .1) (c .before .row-count .result) (c .before .row-count .ensures),
-)
+fill-requires c κs =
+    fill-comparable (c .before .before .before .before .before .before .before .before .before .before .before .args .text .now) (c .before .before .before .before .before .before .before .before .before .before .before .args .work .now) (c .before .before .before .before .before .before .before .read-sheet .last .1 .0) (c .before .before .before .before .before .before .before .read-sheet .result) (c .before .before .before .before .before .before .before .before .before .before .before .pre) (c .before .before .before .before .before .before .before .read-sheet .ensures) (c .before .before .before .enum-told .given .1) (c .before .row-count .result) (c .before .row-count .ensures)
 
 -- src/lib.rt:20:5
 judge-sheet-requires : tie.Need-judge-sheet-requires

@@ -1,0 +1,113 @@
+-- The walk along two rows in both directions at once: one law for its turns, and one for each way that it ends. Assumes nothing.
+use Prim.Native.Nat.{ℕ, zero, _+_, _≤_, _<_}
+use native.Mathlib.Omega.{arith}
+use mathlib.Core.Path.{_≡_, refl, sym, ap, ap₂, _∙_, subst}
+use mathlib.Core.Bool.{Bool, true, false, _&&_}
+use mathlib.Core.List.{List}
+use lib.Bits.{bitAnd, and-le-l}
+use Rattle.sheet_rules.specs.RowLines.{nameOf}
+use Rattle.sheet_rules.specs.WellFormed.{WellFormedRow}
+use Rattle.table.specs.Layout.{rowAddress}
+use Rattle.table.specs.View.{cell, memberIn, rowIn}
+use Rattle.fit.specs.Told.{saysFirst, saysSecond, tells, tellsBack, BothMatch, Walked}
+use Rattle.fit.proofs.WordLaws.{first-and, second-and}
+use Rattle.fit.proofs.WalkLaws.{onward, onward-met, onward-none, onward-skip, onward-lack, onward-both}
+
+-- what is left of a word on rows m and k, with what their members from i and j on allow, is what there was with all of them
+pub record Going (w : List ℕ) (m k before i j left : ℕ) : Type 0 where
+  pub within : left ≤ before
+  pub first : (saysFirst left && onward (tells w) w m k i j) ≡ (saysFirst before && onward (tells w) w m k 0 0)
+  pub second : (saysSecond left && onward (tellsBack w) w k m j i) ≡ (saysSecond before && onward (tellsBack w) w k m 0 0)
+
+-- a turn takes out of the word what it found, and out of what is onward
+
+and-moved : (a b c d : Bool) → d ≡ (b && c) → ((a && b) && c) ≡ (a && d)
+and-moved true b c d e = sym e
+and-moved false b c d e = refl
+
+and-last : (a b : Bool) → b ≡ true → (a && b) ≡ a
+and-last true b e = e
+and-last false b e = refl
+
+module _ (w : List ℕ) (m k before : ℕ) where
+  pub begun : Going w m k before 0 0 before
+  begun = record { within = omega arith; first = refl; second = refl }
+
+  module _ (i j left : ℕ) (g : Going w m k before i j left) where
+    pub turned : (i′ j′ found : ℕ) → onward (tells w) w m k i j ≡ (saysFirst found && onward (tells w) w m k i′ j′)
+        → onward (tellsBack w) w k m j i ≡ (saysSecond found && onward (tellsBack w) w k m j′ i′) → Going w m k before i′ j′ (bitAnd left found)
+    turned i′ j′ found p q =
+        record {
+          within = (let h = and-le-l left found in let l = g .within in omega arith);
+          first =
+              ap (λ (b : Bool). b && onward (tells w) w m k i′ j′) (first-and left found)
+              ∙ and-moved (saysFirst left) (saysFirst found) (onward (tells w) w m k i′ j′) (onward (tells w) w m k i j) p
+              ∙ g .first;
+          second =
+              ap (λ (b : Bool). b && onward (tellsBack w) w k m j′ i′) (second-and left found)
+              ∙ and-moved (saysSecond left) (saysSecond found) (onward (tellsBack w) w k m j′ i′) (onward (tellsBack w) w k m j i) q
+              ∙ g .second;
+        }
+
+    -- the walk ends: nothing is left to ask for either way
+    pub ended : onward (tells w) w m k i j ≡ true → onward (tellsBack w) w k m j i ≡ true → Walked w m k before left
+    unfolding onward
+    ended p q =
+        record {
+          within = g .within;
+          first = sym (and-last (saysFirst left) (onward (tells w) w m k i j) p) ∙ g .first;
+          second = sym (and-last (saysSecond left) (onward (tellsBack w) w k m j i) q) ∙ g .second;
+        }
+
+    -- or nothing is left of the word
+    pub spent : left ≡ 0 → Walked w m k before 0
+    unfolding onward
+    spent e =
+        record {
+          within = omega arith;
+          first = sym (ap (λ (n : ℕ). saysFirst n && onward (tells w) w m k i j) e) ∙ g .first;
+          second = sym (ap (λ (n : ℕ). saysSecond n && onward (tellsBack w) w k m j i) e) ∙ g .second;
+        }
+
+  -- or one row has members left that the other lacks
+  pub stopped : (i j left found : ℕ) → Going w m k before i j left → onward (tells w) w m k i j ≡ saysFirst found
+      → onward (tellsBack w) w k m j i ≡ saysSecond found → Walked w m k before (bitAnd left found)
+  unfolding onward
+  stopped i j left found g p q =
+      record {
+        within = (let h = and-le-l left found in let l = g .within in omega arith);
+        first = first-and left found ∙ ap (λ (b : Bool). saysFirst left && b) (sym p) ∙ g .first;
+        second = second-and left found ∙ ap (λ (b : Bool). saysSecond left && b) (sym q) ∙ g .second;
+      }
+
+-- what the code meets on its way
+
+module _ (w : List ℕ) (m k before i j left : ℕ) (p : WellFormedRow m (rowIn w m)) (q : WellFormedRow k (rowIn w k)) (g : Going w m k before i j left) where
+  pub both-ended : cell w (rowAddress m + 1) ≤ i → cell w (rowAddress k + 1) ≤ j → Walked w m k before left
+  both-ended h l = ended w m k before i j left g (onward-met (tells w) w m k i j l) (onward-met (tellsBack w) w k m j i h)
+
+  pub first-ended : cell w (rowAddress m + 1) ≤ i → j < cell w (rowAddress k + 1) → Walked w m k before (bitAnd left 2)
+  first-ended h l = stopped w m k before i j left 2 g (onward-none (tells w) w m k i j h l) (onward-met (tellsBack w) w k m j i h)
+
+  pub second-ended : i < cell w (rowAddress m + 1) → cell w (rowAddress k + 1) ≤ j → Walked w m k before (bitAnd left 1)
+  second-ended h l = stopped w m k before i j left 1 g (onward-met (tells w) w m k i j l) (onward-none (tellsBack w) w k m j i l h)
+
+  module _ (h : i < cell w (rowAddress m + 1)) (l : j < cell w (rowAddress k + 1)) where
+    pub first-lower : nameOf (memberIn w m i) < nameOf (memberIn w k j) → Going w m k before (i + 1) j (bitAnd left 1)
+    first-lower e =
+        turned w m k before i j left g (i + 1) j 1 (onward-skip (tells w) w m k i j (p .names) (q .names) h l e)
+        (onward-lack (tellsBack w) w k m j i (q .names) (p .names) l h e)
+
+    pub second-lower : nameOf (memberIn w k j) < nameOf (memberIn w m i) → Going w m k before i (j + 1) (bitAnd left 2)
+    second-lower e =
+        turned w m k before i j left g i (j + 1) 2 (onward-lack (tells w) w m k i j (p .names) (q .names) h l e)
+        (onward-skip (tellsBack w) w k m j i (q .names) (p .names) l h e)
+
+    pub one-name : nameOf (memberIn w m i) ≡ nameOf (memberIn w k j) → (r : ℕ) → BothMatch w (memberIn w m i) (memberIn w k j) r
+        → Going w m k before (i + 1) (j + 1) (bitAnd left r)
+    one-name e r b =
+        turned w m k before i j left g (i + 1) (j + 1) r
+        (onward-both (tells w) w m k i j (p .names) (q .names) h l e
+        ∙ ap (λ (t : Bool). t && onward (tells w) w m k (i + 1) (j + 1)) (sym (b .first)))
+        (onward-both (tellsBack w) w k m j i (q .names) (p .names) l h (sym e)
+        ∙ ap (λ (t : Bool). t && onward (tellsBack w) w k m (j + 1) (i + 1)) (sym (b .second)))
