@@ -1,3 +1,4 @@
+use native.Mathlib.Omega.{arith}
 use Rattle.fit.proofs.MatchLaws.{argument-small, result-small, methods-both, fields-same, fields-differ}
 use borrow.Author.Needs.{needs}
 use Rattle.fit.proofs.both_match.Statement.{statement}
@@ -13,19 +14,17 @@ enum-known-y c = search needs
 
 -- src/lib.rt:51:18
 cell-of-requires : tie.Need-cell-of-requires
-cell-of-requires c κs = (
-  argument-small (c .before .before .before .before .before .before .before .args .y) _ _ _ (c .before .y .given .1) (c .before .before .before .before .before .before .before .pre .1),
-  argument-small (c .before .before .before .before .before .before .before .args .x) _ _ _ (c .before .before .before .before .x .given .1) (c .before .before .before .before .before .before .before .pre .0),
-  c .before .before .before .before .before .before .before .pre .3,
-)
+cell-of-requires c κs =
+    let a = argument-small (c .before .before .before .before .before .before .before .args .x) _ _ _ (c .before .before .before .before .x .given .1) (c .before .before .before .before .before .before .before .pre .0) in
+    let b = argument-small (c .before .before .before .before .before .before .before .args .y) _ _ _ (c .before .y .given .1) (c .before .before .before .before .before .before .before .pre .1) in
+    (omega arith, omega arith, c .before .before .before .before .before .before .before .pre .3)
 
 -- src/lib.rt:51:40
 cell-of-requires-2 : tie.Need-cell-of-requires-2
-cell-of-requires-2 c κs = (
-  result-small (c .before .before .before .before .before .before .before .before .args .x) _ _ _ (c .before .before .before .before .before .x .given .1) (c .before .before .before .before .before .before .before .before .pre .0),
-  result-small (c .before .before .before .before .before .before .before .before .args .y) _ _ _ (c .before .before .y .given .1) (c .before .before .before .before .before .before .before .before .pre .1),
-  c .before .before .before .before .before .before .before .before .pre .3,
-)
+cell-of-requires-2 c κs =
+    let r = result-small (c .before .before .before .before .before .before .before .before .args .x) _ _ _ (c .before .before .before .before .before .x .given .1) (c .before .before .before .before .before .before .before .before .pre .0) in
+    let s = result-small (c .before .before .before .before .before .before .before .before .args .y) _ _ _ (c .before .before .y .given .1) (c .before .before .before .before .before .before .before .before .pre .1) in
+    (omega arith, omega arith, c .before .before .before .before .before .before .before .before .pre .3)
 
 -- src/lib.rt:52:50
 enum-told : tie.Need-enum-told
