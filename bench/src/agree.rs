@@ -24,8 +24,8 @@ pub fn check() {
     assert!(outcomes.iter().all(|count| *count > 0), "{outcomes:?}");
     let [done, spent, store, stack] = outcomes;
     println!(
-        "the C interpreters answer as the second program on {} sheets: \
-         {done} runs done, {spent} spent, {store} with a full store, {stack} with a full stack",
+        "The C interpreters answer as the second program on {} sheets: \
+         {done} runs done, {spent} spent, {store} with a full store, {stack} with a full stack.\n",
         2 * SHEETS
     );
 }

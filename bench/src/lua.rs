@@ -1,12 +1,12 @@
 //! A sheet as a Lua program: a form is a class, a method a method, a slot a
-//! local. It prints the seconds of its best round, the number of main's last
-//! object, and how many objects a run made.
+//! local. It prints its seconds, the number of main's last object, and how many
+//! objects a run made.
 
 use second::sheet::{Code, Form, Instruction, Kind, Part, Row};
 use second::Sheet;
 use std::fmt::Write;
 
-/// The program, which runs main so many times a round.
+/// The program, which runs main so many times.
 pub fn program(sheet: &Sheet, runs: u32) -> String {
     let mut text = String::from("local made = 0\n");
     for number in 0..sheet.forms.len() {
@@ -30,11 +30,9 @@ pub fn program(sheet: &Sheet, runs: u32) -> String {
     }
     text += "local function main()\n";
     text += &instructions(sheet, &sheet.main, 0);
-    text += "end\nlocal best, last = math.huge, nil\nfor round = 1, 3 do\n";
-    text += "local start = os.clock()\n";
+    text += "end\nlocal last, start = nil, os.clock()\n";
     let _ = writeln!(text, "for i = 1, {runs} do made = 0 last = main() end");
-    text += "best = math.min(best, os.clock() - start)\nend\n";
-    text + "print(best, last.number, made)\n"
+    text + "print(os.clock() - start, last and last.number, made)\n"
 }
 
 /// A line for each instruction, and the last slot's return.

@@ -2,101 +2,175 @@
 //! wasm-interp, on the same work written for each. Neither counts steps nor
 //! asks for a budget.
 
-use crate::{lua, run_sheets, wasm};
-use boundary::WORK;
-use std::path::PathBuf;
+use crate::programs::{Program, Question};
+use crate::run_sheets::{Work, COUNTED, SLOW, TIMED, WORKS};
+use crate::table::{decimal, Table};
+use crate::timing::{self, timed, Timed};
+use crate::tools::{is_there, output, Scratch};
+use crate::{counts, lua, runs, wasm};
+use second::{RunAnswer, Sheet};
 use std::process::Command;
 use std::time::Instant;
 
+/// Runs of a short sheet that make one time, and one count.
+const TIMED_RUNS: u32 = 2_000;
+const COUNTED_RUNS: u32 = 100;
+
+/// Which interpreters this machine has.
+struct Found {
+    lua: bool,
+    wasm: bool,
+}
+
 /// Prints the table, or says what is missing.
 pub fn table() {
-    println!();
-    println!(
-        "{:<32} {:>9} {:>9} {:>9} {:>6} {:>12} {:>6}",
-        "run, ns a step", "steps", "library", "Lua", "times", "wasm-interp", "times"
-    );
-    row("calls side by side", &run_sheets::calls(), 1);
-    row("calls one inside the other", &run_sheets::chain(), 1);
-    row("fields", &run_sheets::fields(), 1);
-    row("creations", &run_sheets::creations(), 20_000);
-}
-
-fn row(name: &str, text: &str, runs: u32) {
-    let sheet = second::read(text.as_bytes()).expect("an accepted sheet");
-    let wanted = second::run(text.as_bytes(), u32::MAX).expect("an accepted sheet");
-    let steps = f64::from(wanted.steps);
-    let here = library(text.as_bytes(), runs) / steps;
-    let numbers = (u32::from(wanted.value), u32::from(wanted.objects));
-    let lua = lua_seconds(&lua::program(&sheet, runs), numbers) * 1e9 / f64::from(runs) / steps;
-    let long = wasm_seconds(&wasm::module(&sheet, runs), Some(numbers.0));
-    let start = wasm_seconds(&wasm::module(&sheet, 0), None);
-    let wasm = (long - start) * 1e9 / f64::from(runs) / steps;
-    let count = wanted.steps;
-    println!(
-        "{name:<32} {count:>9} {here:>9.2} {lua:>9.2} {:>6.1} {wasm:>12.2} {:>6.1}",
-        lua / here,
-        wasm / here
-    );
-}
-
-/// Nanoseconds of a run, the best of three rounds. Of a short one the same
-/// question with a budget of 0 is taken off.
-fn library(text: &[u8], runs: u32) -> f64 {
-    let mut work = vec![0; WORK];
-    let mut time = |budget: u32| {
-        let start = Instant::now();
-        for _ in 0..runs {
-            std::hint::black_box(boundary::run(text, budget, &mut work));
-        }
-        start.elapsed().as_secs_f64() * 1e9 / f64::from(runs)
+    let found = Found {
+        lua: is_there("lua5.4", "-v", "lua5.4"),
+        wasm: is_there("wat2wasm", "--version", "wabt")
+            && is_there("wasm-interp", "--version", "wabt"),
     };
-    let mut best = |budget: u32| (0..3).map(|_| time(budget)).fold(f64::INFINITY, f64::min);
-    best(u32::MAX) - if runs > 1 { best(0) } else { 0.0 }
+    if !found.lua && !found.wasm {
+        return;
+    }
+    let mut table = Table::new(&[
+        "run, ns a step",
+        "here",
+        "Lua",
+        "Lua to here",
+        "wasm-interp",
+        "to here",
+        "instructions",
+        "Lua",
+        "wasm-interp",
+    ]);
+    for work in &WORKS {
+        table.add(row(work, &found));
+    }
+    table.print();
 }
 
-/// A file of this run's own.
-fn scratch(name: &str, text: &str) -> PathBuf {
-    let path = std::env::temp_dir().join(format!("lexondar-{}-{name}", std::process::id()));
-    std::fs::write(&path, text).expect("the file is written");
-    path
+fn row(work: &Work, found: &Found) -> Vec<String> {
+    let (here, lua, wasm) = times(work, found);
+    let mut cells = vec![work.name.to_string(), decimal(here, 2)];
+    cells.extend([
+        decimal(lua, 2),
+        decimal(lua.map(|lua| lua / here), 1),
+        decimal(wasm, 2),
+        decimal(wasm.map(|wasm| wasm / here), 1),
+    ]);
+    let small = Text::new(work, COUNTED, COUNTED_RUNS);
+    let lua = found.lua.then(|| lua_count(&small)).flatten();
+    let wasm = found.wasm.then(|| wasm_count(&small)).flatten();
+    let here = runs::count(Program::Library, work);
+    cells.extend([here, lua, wasm].map(|count| decimal(count, 1)));
+    cells
 }
 
-fn output(command: &mut Command) -> String {
-    let output = command.output();
-    let output = output.unwrap_or_else(|error| panic!("{command:?}: {error}"));
-    assert!(output.status.success(), "{command:?}");
-    String::from_utf8(output.stdout).expect("plain text")
+/// A sheet, its answer, and how many runs of it are made.
+struct Text {
+    text: String,
+    sheet: Sheet,
+    wanted: RunAnswer,
+    runs: u32,
 }
 
-/// The seconds that the program prints, whose answer is the wanted one.
-fn lua_seconds(program: &str, (value, objects): (u32, u32)) -> f64 {
-    let path = scratch("run.lua", program);
-    let printed = output(Command::new("lua5.4").arg(&path));
-    std::fs::remove_file(path).expect("the file is there");
-    let words: Vec<&str> = printed.split_whitespace().collect();
-    assert_eq!(words[1..], [value.to_string(), objects.to_string()]);
-    words[0].parse().expect("seconds")
-}
-
-/// The seconds that the interpreter takes for a module, start and all.
-fn wasm_seconds(module: &str, wanted: Option<u32>) -> f64 {
-    let (text, code) = (scratch("run.wat", module), scratch("run.wasm", ""));
-    output(Command::new("wat2wasm").arg(&text).arg("-o").arg(&code));
-    let mut best = f64::INFINITY;
-    for _ in 0..2 {
-        let start = Instant::now();
-        let printed = output(
-            Command::new("wasm-interp")
-                .arg(&code)
-                .arg("--run-all-exports"),
-        );
-        best = best.min(start.elapsed().as_secs_f64());
-        if let Some(value) = wanted {
-            assert_eq!(printed.trim(), format!("run() => i32:{value}"));
+impl Text {
+    /// Of a sheet whose run is short so many runs are made.
+    fn new(work: &Work, levels: usize, runs: u32) -> Text {
+        let text = (work.sheet)(levels);
+        let wanted = second::run(text.as_bytes(), u32::MAX);
+        let sheet = second::read(text.as_bytes());
+        Text {
+            sheet: sheet.expect("an accepted sheet"),
+            wanted: wanted.expect("an accepted sheet"),
+            runs: if work.runs == 1 { 1 } else { runs },
+            text,
         }
     }
-    for path in [text, code] {
-        std::fs::remove_file(path).expect("the file is there");
+
+    /// How many steps all its runs take.
+    fn steps(&self) -> f64 {
+        f64::from(self.wanted.steps) * f64::from(self.runs)
     }
-    best
+}
+
+/// Nanoseconds a step of the library, Lua and wasm-interp, in turns. Reading
+/// and starting are taken off by the same without a step.
+fn times(work: &Work, found: &Found) -> (f64, Option<f64>, Option<f64>) {
+    let text = Text::new(work, TIMED, TIMED_RUNS);
+    let slow = Text::new(work, SLOW, TIMED_RUNS);
+    let call = |budget: u32| Program::Library.call(Question::Run(budget), text.text.as_bytes());
+    let mut all: Vec<Timed> = vec![timed(text.runs, call(0)), timed(text.runs, call(u32::MAX))];
+    if found.lua {
+        all.push(lua_time(&text));
+    }
+    if found.wasm {
+        all.push(wasm_time(&slow, 0));
+        all.push(wasm_time(&slow, slow.runs));
+    }
+    let best = timing::best(5, &mut all);
+    let here = (best[1] - best[0]) / f64::from(text.wanted.steps);
+    let lua = found.lua.then(|| best[2] / text.steps());
+    let wasm = found.wasm.then(|| {
+        let [.., start, whole] = best[..] else {
+            unreachable!("both were timed")
+        };
+        (whole - start) / slow.steps()
+    });
+    (here, lua, wasm)
+}
+
+/// The nanoseconds that the program prints, whose answer is the wanted one.
+fn lua_time(text: &Text) -> Timed<'_> {
+    let file = Scratch::new("timed.lua", lua::program(&text.sheet, text.runs).as_bytes());
+    let wanted = [text.wanted.value, text.wanted.objects].map(|number| number.to_string());
+    Box::new(move || {
+        let printed = output(Command::new("lua5.4").arg(file.path())).stdout;
+        let printed = String::from_utf8_lossy(&printed);
+        let words: Vec<&str> = printed.split_whitespace().collect();
+        assert_eq!(words[1..], wanted, "Lua");
+        words[0].parse::<f64>().expect("seconds") * 1e9
+    })
+}
+
+/// A module's code, which makes so many runs.
+fn wasm_code(sheet: &Sheet, runs: u32) -> Scratch {
+    let text = Scratch::new("run.wat", wasm::module(sheet, runs).as_bytes());
+    let code = Scratch::new(&format!("run-{runs}.wasm"), &[]);
+    let mut translate = Command::new("wat2wasm");
+    output(translate.arg(text.path()).arg("-o").arg(code.path()));
+    code
+}
+
+/// The nanoseconds that the interpreter takes for a module, start and all.
+fn wasm_time(text: &Text, runs: u32) -> Timed<'_> {
+    let code = wasm_code(&text.sheet, runs);
+    let value = if runs == 0 { 0 } else { text.wanted.value };
+    let wanted = format!("run() => i32:{value}");
+    Box::new(move || {
+        let start = Instant::now();
+        let mut command = Command::new("wasm-interp");
+        let printed = output(command.arg(code.path()).arg("--run-all-exports")).stdout;
+        let time = start.elapsed().as_secs_f64() * 1e9;
+        assert_eq!(String::from_utf8_lossy(&printed).trim(), wanted);
+        time
+    })
+}
+
+/// Instructions a step of the whole process, less those without a run.
+fn lua_count(text: &Text) -> Option<f64> {
+    let [whole, start] = [text.runs, 0].map(|runs| {
+        let file = Scratch::new("counted.lua", lua::program(&text.sheet, runs).as_bytes());
+        counts::of_process(&["lua5.4".as_ref(), file.path().as_os_str()])
+    });
+    Some((whole? - start?) / text.steps())
+}
+
+fn wasm_count(text: &Text) -> Option<f64> {
+    let [whole, start] = [text.runs, 0].map(|runs| {
+        let code = wasm_code(&text.sheet, runs);
+        let path = code.path().as_os_str();
+        counts::of_process(&["wasm-interp".as_ref(), path, "--run-all-exports".as_ref()])
+    });
+    Some((whole? - start?) / text.steps())
 }

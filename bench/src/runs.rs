@@ -1,115 +1,113 @@
-//! The run beside two C interpreters: nanoseconds a step, the best of rounds
-//! in which all take turns. The plain one works over the table as the library
-//! does and is the yardstick; the threaded one shows what turning the sheet
-//! into code first would bring.
+//! The run beside two C interpreters and the second program. The plain
+//! interpreter works over the table as the library does and is the yardstick;
+//! the threaded one shows what turning the sheet into code first would bring.
 
-use crate::{plain, run_sheets, threaded};
-use boundary::WORK;
-use std::hint::black_box;
-use std::time::Instant;
+use crate::counts;
+use crate::programs::{Call, Program, Question};
+use crate::run_sheets::{Work, COUNTED, TIMED, WORKS};
+use crate::table::{decimal, whole, Table};
+use crate::timing::{self, timed};
 
-/// A sheet's text, as all three run it.
-struct Sheet<'a> {
-    text: &'a [u8],
-    plain: plain::Program,
-    threaded: threaded::Program,
-    work: Vec<u16>,
-}
+const WHOLE: Question = Question::Run(u32::MAX);
+const NO_STEP: Question = Question::Run(0);
+const PROGRAMS: [Program; 4] = [
+    Program::Library,
+    Program::Plain,
+    Program::Threaded,
+    Program::Second,
+];
 
-/// One round, in nanoseconds: what is to be taken off the others, the
-/// library's question, and the interpreters' runs.
-type Times = [f64; 4];
-type Round = fn(&mut Sheet) -> Times;
-
-/// Prints the table of the runs.
+/// Prints the table: nanoseconds a step, then instructions a step.
 pub fn table() {
-    println!();
-    println!(
-        "{:<44} {:>9} {:>9} {:>9} {:>6} {:>9}",
-        "run, ns a step", "steps", "library", "C", "times", "threaded"
-    );
-    row("calls side by side", &run_sheets::calls(), 9, long);
-    row("calls one inside the other", &run_sheets::chain(), 9, long);
-    row("fields", &run_sheets::fields(), 9, long);
-    row("creations", &run_sheets::creations(), 300, short);
+    let mut table = Table::new(&[
+        "run, ns a step",
+        "steps",
+        "M steps/s",
+        "here",
+        "C",
+        "here to C",
+        "threaded C",
+        "second",
+        "second to here",
+        "instructions",
+        "C",
+        "threaded C",
+        "second",
+    ]);
+    for work in &WORKS {
+        table.add(row(work));
+    }
+    table.print();
 }
 
-fn row(name: &str, text: &str, rounds: usize, round: Round) {
-    let text = text.as_bytes();
-    let wanted = second::run(text, u32::MAX).expect("an accepted sheet");
-    let read = second::read(text).expect("an accepted sheet");
-    let mut sheet = Sheet {
-        text,
-        plain: plain::Program::of(&read),
-        threaded: threaded::Program::of(&read),
-        work: vec![0; WORK],
+fn row(work: &Work) -> Vec<String> {
+    let text = (work.sheet)(TIMED);
+    let steps = steps(text.as_bytes());
+    let times = times(work, text.as_bytes());
+    let [here, plain, threaded, second] = times.map(|time| time / f64::from(steps));
+    let mut cells = vec![work.name.to_string(), whole(steps.into())];
+    cells.extend([
+        decimal(1e3 / here, 0),
+        decimal(here, 2),
+        decimal(plain, 2),
+        decimal(here / plain, 2),
+        decimal(threaded, 2),
+        decimal(second, 2),
+        decimal(second / here, 1),
+    ]);
+    cells.extend(PROGRAMS.map(|program| decimal(count(program, work), 1)));
+    cells
+}
+
+/// The steps of a sheet's whole run, about which all agree.
+pub fn steps(text: &[u8]) -> u32 {
+    let wanted = Program::Second.call(WHOLE, text)();
+    for program in PROGRAMS {
+        assert_eq!(program.call(WHOLE, text)(), wanted, "{program:?}");
+    }
+    wanted[3]
+}
+
+/// Nanoseconds of a run in each program. Reading, judging and clearing are no
+/// steps, so the same question with a budget of 0 is taken off; the
+/// interpreters run after that question, which leaves the caches to all alike.
+fn times(work: &Work, text: &[u8]) -> [f64; 4] {
+    let call = |program: Program, question: Question| program.call(question, text);
+    let after = |program: Program| -> Call {
+        let mut no_step = call(Program::Library, NO_STEP);
+        let mut run = call(program, WHOLE);
+        Box::new(move || {
+            no_step();
+            run()
+        })
     };
-    assert_eq!(sheet.plain.run(u32::MAX), wanted, "{name}");
-    assert_eq!(sheet.threaded.run(u32::MAX), wanted, "{name}");
-    let given = boundary::run(text, u32::MAX, &mut sheet.work);
-    let answer = [given.outcome, given.steps, given.value, given.objects];
-    let (value, objects) = (wanted.value.into(), wanted.objects.into());
-    assert_eq!(
-        answer,
-        [wanted.outcome as u32, wanted.steps, value, objects]
-    );
-    let mut best = [f64::INFINITY; 4];
-    for _ in 0..rounds {
-        for (best, time) in best.iter_mut().zip(round(&mut sheet)) {
-            *best = best.min(time);
-        }
-    }
-    let steps = wanted.steps;
-    let off = best[0];
-    let [_, here, plain, threaded] = best.map(|time| (time - off) / f64::from(steps));
-    let times = here / plain;
-    println!("{name:<44} {steps:>9} {here:>9.2} {plain:>9.2} {times:>6.2} {threaded:>9.2}");
+    let calls = [
+        call(Program::Library, NO_STEP),
+        call(Program::Second, NO_STEP),
+        call(Program::Library, WHOLE),
+        after(Program::Plain),
+        after(Program::Threaded),
+        call(Program::Second, WHOLE),
+    ];
+    let rounds = if work.runs == 1 { 9 } else { 300 };
+    let best = timing::best(rounds, &mut calls.map(|call| timed(work.runs, call)));
+    let (here, second) = (best[0], best[1]);
+    [
+        best[2] - here,
+        best[3] - here,
+        best[4] - here,
+        best[5] - second,
+    ]
 }
 
-/// A run so long that reading is nothing beside it.
-fn long(sheet: &mut Sheet) -> Times {
-    let here = time(1, || ask(sheet, u32::MAX));
-    let plain = time(1, || run_plain(sheet));
-    let threaded = time(1, || run_threaded(sheet));
-    [0.0, here, plain, threaded]
-}
-
-/// A run of a few hundred steps, made over and over. Reading, judging and
-/// clearing take longer than it does, so the same question with a budget of 0
-/// is taken off; the interpreters run after that question, which leaves the
-/// caches to all three alike.
-fn short(sheet: &mut Sheet) -> Times {
-    let off = time(20, || ask(sheet, 0));
-    let here = time(20, || ask(sheet, u32::MAX));
-    let plain = time(20, || {
-        ask(sheet, 0);
-        run_plain(sheet);
-    });
-    let threaded = time(20, || {
-        ask(sheet, 0);
-        run_threaded(sheet);
-    });
-    [off, here, plain, threaded]
-}
-
-fn ask(sheet: &mut Sheet, budget: u32) {
-    let text = black_box(sheet.text);
-    black_box(boundary::run(text, black_box(budget), &mut sheet.work));
-}
-
-fn run_plain(sheet: &Sheet) {
-    black_box(sheet.plain.run(black_box(u32::MAX)));
-}
-
-fn run_threaded(sheet: &Sheet) {
-    black_box(sheet.threaded.run(black_box(u32::MAX)));
-}
-
-/// Nanoseconds of one call among so many.
-fn time(calls: u32, mut call: impl FnMut()) -> f64 {
-    let start = Instant::now();
-    for _ in 0..calls {
-        call();
-    }
-    start.elapsed().as_secs_f64() * 1e9 / f64::from(calls)
+/// Instructions a step, counted on a smaller run.
+pub fn count(program: Program, work: &Work) -> Option<f64> {
+    let text = (work.sheet)(COUNTED);
+    let text = text.as_bytes();
+    let whole = counts::of_call(program, WHOLE, text)?;
+    let off = match program {
+        Program::Library | Program::Second => counts::of_call(program, NO_STEP, text)?,
+        Program::Plain | Program::Threaded => 0.0,
+    };
+    Some((whole - off) / f64::from(steps(text)))
 }

@@ -1,54 +1,119 @@
-//! The sheets that are timed.
+//! The sheets that are read and judged.
 
-/// 64 rows. Row 0 is pure and empty; every other has so many methods, whose
-/// arguments and results are the row before it.
-fn rows(methods: usize) -> String {
-    let mut text = String::from("types=64\ntype=0,0\n");
+use crate::rows::{last_method, rows};
+use std::fmt::Write;
+
+/// A text may have so many bytes.
+const TEXT: usize = 65_535;
+
+/// The longest sheet that can be accepted. A `new` of eight slots with two
+/// digits has the longest line. In a body it comes after one line, because
+/// eight kept values fill the slots up to 9; so there are as few bodies as
+/// 1,023 instructions need, 32, and all other parts are fields. Main's first
+/// line can only be the `new` of a form that keeps nothing; so that is all
+/// that main has, and the form has no parts. Row 10 has the fields, since its
+/// members lose the least by not being methods, and all rows are resources,
+/// so that row 10 fits row 0.
+pub fn longest() -> String {
+    let mut text = String::from("types=64\ntype=1,0\n");
     for row in 1..64 {
-        text += &format!("type=0,{methods}\n");
-        for name in 0..methods {
-            text += &format!("def={name},{before},{before}\n", before = row - 1);
+        text += "type=1,8\n";
+        for name in 10..18 {
+            let _ = match row {
+                10 => writeln!(text, "var={name},0"),
+                _ => writeln!(text, "def={name},{before},{before}", before = row - 1),
+            };
         }
     }
-    text
-}
-
-/// Rows alone, with one form and a short main.
-pub fn of_rows(methods: usize) -> String {
-    rows(methods) + "forms=1\nform=0,0\nmain=1\nnew=0\n"
-}
-
-/// A sheet at every limit: 64 rows of 8 methods, 64 forms of 8 kept values,
-/// 1,024 instructions.
-pub fn at_every_limit() -> String {
-    let mut text = rows(8) + "forms=64\nform=0,0\n";
-    let mut spare = 1024 - 32 - 63 * 8;
-    for row in 1..64 {
-        text += &format!("form={row},8\n");
-        text += &"keep=0\n".repeat(8);
-        for _ in 0..8 {
-            let more = usize::from(spare > 0);
-            spare -= more;
-            text += &format!("body={}\n", 1 + more);
-            text += &"copy=1\n".repeat(1 + more);
+    text += "forms=64\n";
+    for form in 0..63 {
+        let row = if form < 4 { 11 } else { 10 };
+        let _ = writeln!(text, "form={row},8");
+        text += &"keep=10\n".repeat(8);
+        for place in 0..8 {
+            if form < 4 {
+                text += &long_body(if form + place == 0 { 31 } else { 32 });
+            } else {
+                let _ = writeln!(text, "init={place}");
+            }
         }
     }
-    text + "main=32\n" + &"new=0\n".repeat(32)
+    text + "form=0,0\nmain=1\nnew=63\n"
 }
 
-/// As slow to judge as a sheet can be: 64 rows of 8 methods, and as many
-/// instructions as there may be, each second a `new` of eight slots.
+/// So many `new` of a form of row 10; only the first line has no slot yet
+/// whose number has two digits.
+fn long_body(count: usize) -> String {
+    let first = format!("body={count}\nnew=62{}\n", ",1".repeat(8));
+    let other = format!("new=62{}\n", ",10".repeat(8));
+    first + &other.repeat(count - 1)
+}
+
+/// The longest sheet with more lines after main, as many bytes as a text may
+/// have; and how many of them are read: up to the line after main.
+pub fn over_long() -> (String, usize) {
+    let mut text = longest();
+    let short = "copy=0\n";
+    let read = text.len() + short.len();
+    let (lines, left) = ((TEXT - text.len()) / 7, (TEXT - text.len()) % 7);
+    text += &short.repeat(lines - left);
+    text += &"copy=10\n".repeat(left);
+    (text, read)
+}
+
+/// As slow to judge as a sheet can be: rows that are slow to fit, and as many
+/// instructions as there may be, all but one a `new` of eight slots. Form n is
+/// of row n, so that a body can give back a value of any row.
 pub fn slowest() -> String {
-    let mut text = rows(8) + "forms=64\nform=0,0\n";
-    for row in 1..64 {
-        text += &format!("form={row},8\n");
-        text += &"keep=0\n".repeat(8);
-        text += &"body=2\nnew=63,1,1,1,1,1,1,1,1\ncopy=1\n".repeat(8);
+    let mut text = rows(last_method) + "forms=64\n";
+    let slots = ",2".repeat(8);
+    for row in 0..63 {
+        let _ = write!(text, "form={row},8\n{}", "keep=0\n".repeat(8));
+        for place in 0..if row == 0 { 0 } else { 8 } {
+            let result = if place == 7 { row - 1 } else { 0 };
+            let _ = write!(text, "body=2\nnew=62{slots}\nnew={result}{slots}\n");
+        }
     }
-    text + "main=16\n" + &"new=0\n".repeat(16)
+    text += "form=0,0\nmain=32\nnew=63\n";
+    text + &format!("new=62{}\n", ",0".repeat(8)).repeat(31)
 }
 
 /// A sheet with its last line torn: it is read to the end, and not judged.
-pub fn torn(sheet: &str) -> String {
-    String::from(sheet.trim_end())
+pub fn torn(sheet: &str) -> &str {
+    sheet.trim_end()
+}
+
+/// 256 objects, all resources, with eight kept values and seven fields, and
+/// 64 frames, all but main's with 41 filled slots and a receiver of their own:
+/// a body makes four objects, looks at what it has, and calls itself on the
+/// last one. Main has made four before; the run ends when the stack is full.
+pub fn holders() -> String {
+    let mut text = String::from("types=2\ntype=1,0\ntype=1,8\ndef=0,0,0\n");
+    for name in 1..8 {
+        let _ = writeln!(text, "var={name},0");
+    }
+    let _ = write!(
+        text,
+        "forms=2\nform=0,0\nform=1,8\n{}",
+        "keep=0\n".repeat(8)
+    );
+    text += "body=32\n";
+    for made in 10..14 {
+        let _ = writeln!(text, "new=1,0,1,2,3,4,5,6,{}", made - 1);
+    }
+    for place in 0..27 {
+        let _ = match place % 2 {
+            0 => writeln!(text, "get={}", 1 + place % 7),
+            _ => writeln!(text, "copy={}", place % 14),
+        };
+    }
+    text += "call=13,0,12\n";
+    for field in 0..7 {
+        let _ = writeln!(text, "init={}", 7 - field);
+    }
+    text += "main=5\nnew=0\n";
+    for made in 1..4 {
+        let _ = writeln!(text, "new=1,0,0,0,0,0,0,0,{}", made - 1);
+    }
+    text + "call=3,0,2\n"
 }

@@ -44,53 +44,25 @@ fn refused(reason: Reason, line: u32) -> Result<(), Refusal> {
     Err(Refusal { reason, line })
 }
 
+/// The examples of refused sheets, each with its reason and line.
+const REFUSED: [(&str, Reason, u32); 8] = [
+    ("refused-3-torn", Reason::Malformed, 20),
+    ("refused-4-limit", Reason::OutOfLimit, 1),
+    ("refused-5-order", Reason::NotAscending, 5),
+    ("refused-6-twin", Reason::DuplicateRow, 6),
+    ("refused-7-slot", Reason::NotDefined, 20),
+    ("refused-8-pure", Reason::ImpureForm, 13),
+    ("refused-9-method", Reason::NoSuchMember, 20),
+    ("refused-10-misfit", Reason::Misfit, 19),
+];
+
 #[test]
 fn each_refusal_has_its_name() {
-    let cases: [(&[u8], Reason, u32); 8] = [
-        (
-            include_bytes!("../../examples/refused-3-torn.sheet"),
-            Reason::Malformed,
-            20,
-        ),
-        (
-            include_bytes!("../../examples/refused-4-limit.sheet"),
-            Reason::OutOfLimit,
-            1,
-        ),
-        (
-            include_bytes!("../../examples/refused-5-order.sheet"),
-            Reason::NotAscending,
-            5,
-        ),
-        (
-            include_bytes!("../../examples/refused-6-twin.sheet"),
-            Reason::DuplicateRow,
-            6,
-        ),
-        (
-            include_bytes!("../../examples/refused-7-slot.sheet"),
-            Reason::NotDefined,
-            20,
-        ),
-        (
-            include_bytes!("../../examples/refused-8-pure.sheet"),
-            Reason::ImpureForm,
-            13,
-        ),
-        (
-            include_bytes!("../../examples/refused-9-method.sheet"),
-            Reason::NoSuchMember,
-            20,
-        ),
-        (
-            include_bytes!("../../examples/refused-10-misfit.sheet"),
-            Reason::Misfit,
-            19,
-        ),
-    ];
     let mut work = Work::new();
-    for (text, reason, line) in cases {
-        assert_eq!(verdict(text, &mut work), refused(reason, line));
+    for (name, reason, line) in REFUSED {
+        let root = env!("CARGO_MANIFEST_DIR");
+        let text = std::fs::read(format!("{root}/../examples/{name}.sheet")).expect("an example");
+        assert_eq!(verdict(&text, &mut work), refused(reason, line), "{name}");
     }
     let long = vec![b'\n'; 65_536];
     assert_eq!(verdict(&long, &mut work), refused(Reason::TextTooLong, 0));

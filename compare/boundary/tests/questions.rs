@@ -130,32 +130,35 @@ impl Case<'_> {
         self.ask((30, 0), (wanted, &[]), run_of(1, 0), seen, |work, _| {
             run(text, budget, work)
         });
+        self.ask_holder(budget, seen);
+        let numbers = entries(&machine);
+        let wanted = ReportResult {
+            outcome: wanted.outcome,
+            steps: wanted.steps,
+            value: wanted.value,
+            objects: wanted.objects,
+            count: numbers.len() as u32,
+            ..report_of(0, 0)
+        };
+        let (asked, short) = ((50, REPORT), report_of(1, 0));
+        self.ask(asked, (wanted, &numbers), short, seen, |work, result| {
+            report(text, budget, work, result)
+        });
+    }
+
+    /// The authority of some number, which may be no holder.
+    fn ask_holder(&self, budget: u32, seen: &mut Lengths) {
         let holder = (draw(self.seed ^ 103) % 261) as u32;
-        let held = second::authority(text, budget, holder);
+        let held = second::authority(self.text, budget, holder);
         let numbers = held.clone().unwrap_or_default();
         let wanted = AuthorityResult {
             refusal: held.as_ref().err().map_or(0, |refusal| refusal.number()),
             line: 0,
             count: numbers.len() as u32,
         };
-        let asked = (40, AUTHORITY);
-        let short = held_of(1, 0);
+        let (asked, short) = ((40, AUTHORITY), held_of(1, 0));
         self.ask(asked, (wanted, &numbers), short, seen, |work, result| {
-            authority(text, budget, holder as usize, work, result)
-        });
-        let numbers = entries(&machine);
-        let wanted = ReportResult {
-            outcome: ran.outcome as u32,
-            steps: ran.steps,
-            value: ran.value.into(),
-            objects: ran.objects.into(),
-            count: numbers.len() as u32,
-            ..report_of(0, 0)
-        };
-        let asked = (50, REPORT);
-        let short = report_of(1, 0);
-        self.ask(asked, (wanted, &numbers), short, seen, |work, result| {
-            report(text, budget, work, result)
+            authority(self.text, budget, holder as usize, work, result)
         });
     }
 }

@@ -1,0 +1,185 @@
+//! The programs that are compared, and the questions that they are asked.
+
+use crate::{plain, threaded};
+use boundary::{REPORT, WORK};
+use second::authority::{authority_of, holders};
+use second::machine::Machine;
+use second::{Refusal, RunAnswer, Sheet};
+use std::cell::RefCell;
+use std::hint::black_box;
+
+#[derive(Clone, Copy, Debug)]
+pub enum Program {
+    Library,
+    Second,
+    Plain,
+    Threaded,
+}
+
+/// Every program with its word on the command line.
+const PROGRAMS: [(Program, &str); 4] = [
+    (Program::Library, "library"),
+    (Program::Second, "second"),
+    (Program::Plain, "plain"),
+    (Program::Threaded, "threaded"),
+];
+
+/// Fit is asked of two rows, a run and a report have a budget.
+#[derive(Clone, Copy, Debug)]
+pub enum Question {
+    Verdict,
+    Fit(u32, u32),
+    Run(u32),
+    Report(u32),
+}
+
+/// A refusal's number and line, or 0; then 1 for yes, or the outcome, steps,
+/// value and number of objects; and how many numbers a report has.
+pub type Answer = [u32; 7];
+
+/// A question that is ready to be asked again and again.
+pub type Call<'a> = Box<dyn FnMut() -> Answer + 'a>;
+
+impl Program {
+    pub fn word(self) -> &'static str {
+        PROGRAMS[self as usize].1
+    }
+
+    pub fn of(word: &str) -> Option<Program> {
+        let found = PROGRAMS.iter().find(|program| program.1 == word)?;
+        Some(found.0)
+    }
+
+    /// The question on this text. What a program needs ready before it can be
+    /// asked is made here: an interpreter's code, for one.
+    pub fn call(self, question: Question, text: &[u8]) -> Call<'_> {
+        match (self, question) {
+            (Program::Library, _) => library(question, text),
+            (Program::Second, _) => second_program(question, text),
+            (Program::Plain, Question::Run(budget)) => {
+                let program = plain::Program::of(&read(text));
+                Box::new(move || ran(program.run(black_box(budget))))
+            }
+            (Program::Threaded, Question::Run(budget)) => {
+                let program = threaded::Program::of(&read(text));
+                Box::new(move || ran(program.run(black_box(budget))))
+            }
+            _ => panic!("an interpreter only runs"),
+        }
+    }
+}
+
+impl Question {
+    /// The question on the command line.
+    pub fn words(self) -> [String; 3] {
+        let (word, a, b) = match self {
+            Question::Verdict => ("verdict", 0, 0),
+            Question::Fit(a, b) => ("fit", a, b),
+            Question::Run(budget) => ("run", budget, 0),
+            Question::Report(budget) => ("report", budget, 0),
+        };
+        [word.to_string(), a.to_string(), b.to_string()]
+    }
+
+    pub fn of(words: [&str; 3]) -> Option<Question> {
+        let (a, b) = (words[1].parse().ok()?, words[2].parse().ok()?);
+        match words[0] {
+            "verdict" => Some(Question::Verdict),
+            "fit" => Some(Question::Fit(a, b)),
+            "run" => Some(Question::Run(a)),
+            "report" => Some(Question::Report(a)),
+            _ => None,
+        }
+    }
+}
+
+/// Lends the one work buffer that all calls share, as on a terminal. With a
+/// buffer for each call, where it lies would move the times.
+fn with_work<T>(ask: impl FnOnce(&mut [u16]) -> T) -> T {
+    thread_local! {
+        static BUFFER: RefCell<Vec<u16>> = RefCell::new(vec![0; WORK]);
+    }
+    BUFFER.with_borrow_mut(|work| ask(work))
+}
+
+fn library(question: Question, text: &[u8]) -> Call<'_> {
+    match question {
+        Question::Verdict => Box::new(move || {
+            let given = with_work(|work| boundary::verdict(black_box(text), work));
+            [given.refusal, given.line, 0, 0, 0, 0, 0]
+        }),
+        Question::Fit(a, b) => Box::new(move || {
+            let (a, b) = (a as usize, b as usize);
+            let given = with_work(|work| boundary::fit(black_box(text), a, b, work));
+            [given.refusal, given.line, given.fits, 0, 0, 0, 0]
+        }),
+        Question::Run(budget) => Box::new(move || {
+            let g = with_work(|work| boundary::run(black_box(text), budget, work));
+            [g.refusal, g.line, g.outcome, g.steps, g.value, g.objects, 0]
+        }),
+        Question::Report(budget) => {
+            let mut result = vec![0; REPORT];
+            Box::new(move || {
+                let text = black_box(text);
+                let g = with_work(|work| boundary::report(text, budget, work, &mut result));
+                let run = [g.outcome, g.steps, g.value, g.objects];
+                [g.refusal, g.line, run[0], run[1], run[2], run[3], g.count]
+            })
+        }
+    }
+}
+
+fn second_program(question: Question, text: &[u8]) -> Call<'_> {
+    match question {
+        Question::Verdict => Box::new(move || judged(second::verdict(black_box(text)))),
+        Question::Fit(a, b) => Box::new(move || match second::fit(black_box(text), a, b) {
+            Ok(fits) => [0, 0, fits.into(), 0, 0, 0, 0],
+            Err(refusal) => judged(Err(refusal)),
+        }),
+        Question::Run(budget) => Box::new(move || match second::run(black_box(text), budget) {
+            Ok(run) => ran(run),
+            Err(refusal) => judged(Err(refusal)),
+        }),
+        Question::Report(budget) => {
+            // Its verdict keeps the sheet to itself, so the run goes on from
+            // one that was read before: nothing is counted twice.
+            let sheet = read(text);
+            Box::new(move || {
+                black_box(judged(second::verdict(black_box(text))));
+                let mut machine = Machine::start(&sheet);
+                let mut answer = ran(machine.run(black_box(budget)));
+                answer[6] = black_box(entries(&machine)).len() as u32;
+                answer
+            })
+        }
+    }
+}
+
+/// The sheet of an accepted text.
+fn read(text: &[u8]) -> Sheet {
+    second::verdict(text).expect("an accepted sheet");
+    second::read(text).expect("an accepted sheet")
+}
+
+fn judged(verdict: Result<(), Refusal>) -> Answer {
+    match verdict {
+        Ok(()) => [0; 7],
+        Err(refusal) => [refusal.number(), refusal.line, 0, 0, 0, 0, 0],
+    }
+}
+
+fn ran(run: RunAnswer) -> Answer {
+    let (value, objects) = (run.value.into(), run.objects.into());
+    [0, 0, run.outcome as u32, run.steps, value, objects, 0]
+}
+
+/// A report's numbers: main's entry, then every resource object's.
+pub fn entries(machine: &Machine) -> Vec<u16> {
+    let mut numbers = Vec::new();
+    for holder in holders(machine) {
+        let held = authority_of(machine, holder.into()).expect("a holder");
+        numbers.extend([holder, held.len() as u16]);
+        numbers.extend(held);
+    }
+    numbers
+}
