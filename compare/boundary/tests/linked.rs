@@ -46,3 +46,16 @@ fn the_example_in_c_prints_the_stored_lines_of_every_example() {
     }
     assert_eq!(count, 12);
 }
+
+#[test]
+fn the_header_stands_alone_in_c_and_in_cpp() {
+    for (compiler, language) in [("cc", "c"), ("c++", "c++")] {
+        let status = Command::new(compiler)
+            .args(["-x", language, "-fsyntax-only", "-Wall", "-Wextra"])
+            .args(["-Werror", "-pedantic"])
+            .arg(format!("{ROOT}/include/lexondar.h"))
+            .status()
+            .expect("the compiler is there");
+        assert!(status.success(), "{language}");
+    }
+}

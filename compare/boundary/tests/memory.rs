@@ -1,6 +1,8 @@
-//! The library under a memory checker, on buffers that nobody wrote: no step
-//! outside a buffer, and no answer that rests on what was never written.
+//! The library called from C by its header: its answers are those that Rust
+//! gets, and a memory checker sees no step outside a buffer and no answer that
+//! rests on what was never written.
 
+use boundary::{authority, fit, report, run, verdict, AUTHORITY, REPORT, WORK};
 use std::path::{Path, PathBuf};
 use std::process::Command;
 
@@ -22,14 +24,17 @@ fn compiled(name: &str) -> PathBuf {
     program
 }
 
+fn sheet(index: u64) -> Vec<u8> {
+    match index % 4 {
+        0 => generator::mill(93, index),
+        _ => generator::sheet(93, index),
+    }
+}
+
 /// Sheets in one file, each after its length in four bytes.
-fn stored(count: u64) -> PathBuf {
+fn stored(sheets: &[Vec<u8>]) -> PathBuf {
     let mut bytes = Vec::new();
-    for index in 0..count {
-        let text = match index % 4 {
-            0 => generator::mill(93, index),
-            _ => generator::sheet(93, index),
-        };
+    for text in sheets {
         bytes.extend((text.len() as u32).to_le_bytes());
         bytes.extend(text);
     }
@@ -38,12 +43,54 @@ fn stored(count: u64) -> PathBuf {
     path
 }
 
+/// The sum that the program in C makes of all answers.
+#[derive(Default)]
+struct Sum(u64);
+
+impl Sum {
+    fn add(&mut self, numbers: &[u32]) {
+        let number: u32 = numbers.iter().fold(0, |sum, n| sum.wrapping_add(*n));
+        self.0 = self.0.wrapping_mul(31).wrapping_add(number.into());
+    }
+
+    fn add_result(&mut self, result: &[u16]) {
+        for number in result {
+            self.add(&[(*number).into()]);
+        }
+    }
+
+    /// What `judge` and `ask` add, in their order.
+    fn add_sheet(&mut self, text: &[u8]) {
+        let (mut work, mut held, mut all) = (vec![7; WORK], vec![7; AUTHORITY], vec![7; REPORT]);
+        let given = verdict(text, &mut work);
+        self.add(&[given.refusal * 65_536, given.line]);
+        for budget in [0, 300] {
+            let given = fit(text, 1, 0, &mut work);
+            self.add(&[given.refusal, given.line, given.fits]);
+            let given = run(text, budget, &mut work);
+            self.add(&[given.outcome, given.steps, given.value, given.objects]);
+            let given = authority(text, budget, 256, &mut work, &mut held);
+            self.add(&[given.refusal, given.line]);
+            self.add_result(&held[..given.count as usize]);
+            let given = report(text, budget, &mut work, &mut all);
+            self.add(&[given.steps, given.count]);
+            self.add_result(&all[..given.count as usize]);
+        }
+    }
+}
+
 #[test]
-fn the_memory_checker_has_no_complaint_on_300_sheets() {
-    let (program, sheets) = (compiled("sweep"), stored(300));
+fn c_gets_the_same_answers_and_the_memory_checker_has_no_complaint_on_300_sheets() {
+    let sheets: Vec<Vec<u8>> = (0..300).map(sheet).collect();
+    let mut sum = Sum::default();
+    for text in &sheets {
+        sum.add_sheet(text);
+    }
+    let (program, sheets) = (compiled("sweep"), stored(&sheets));
     let plain = Command::new(&program).arg(&sheets).output();
     let plain = plain.expect("the program runs");
     assert!(plain.status.success(), "{:?}", plain.status);
+    assert_eq!(plain.stdout, format!("{}\n", sum.0).into_bytes());
     let checked = Command::new("valgrind")
         .args(["--quiet", "--error-exitcode=9"])
         .arg(&program)

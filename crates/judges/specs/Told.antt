@@ -20,9 +20,13 @@ use Rattle.judges.specs.declared.NumberJudged.{NumberJudged}
 use Rattle.judges.specs.declared.PairJudged.{PairJudged}
 use Rattle.judges.specs.declared.LineJudged.{LineJudged}
 
+-- a key's facts from three numbers
+abbrev pub factsFrom : ℕ → ℕ → ℕ → KeyFacts
+factsFrom code fewest most = record { code = code; fewest = fewest; most = most }
+
 -- a key's code and number count, from the rules' table
 unfoldable pub factsOf : Key → KeyFacts
-factsOf k = record { code = codeOf k; fewest = (countOf k) .fewest; most = (countOf k) .most }
+factsOf k = factsFrom (codeOf k) ((countOf k) .fewest) ((countOf k) .most)
 
 -- a key that a sheet may have
 abbrev pub Known : Key → Type 0

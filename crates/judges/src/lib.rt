@@ -10,7 +10,7 @@ ghost use Rattle.sheet_rules.specs.declared.Member.{Member as MemberRule};
 ghost use Rattle.sheet_rules.specs.RowLines.{Heading, rowLine, memberLine};
 ghost use Rattle.sheet_rules.specs.FormLines.{formLine, bodyLine};
 ghost use Rattle.lexer.specs.Scan.{listOf};
-ghost use Rattle.judges.specs.Told.{factsOf, numberTold, rowTold, formTold, AtMost8, lineTold, Lowest, memberRest, MemberShaped};
+ghost use Rattle.judges.specs.Told.{factsFrom, factsOf, numberTold, rowTold, formTold, AtMost8, lineTold, Lowest, memberRest, MemberShaped};
 use lexer::Numbers;
 use sheet_rules::Key;
 use sheet_rules::Reason;
@@ -20,6 +20,14 @@ pub struct KeyFacts {
     pub code: u32,
     pub fewest: u32,
     pub most: u32,
+}
+
+impl KeyFacts {
+    fn of(code: u32, fewest: u32, most: u32) -> KeyFacts
+        ensures { λ r. ⌜ r ≡ factsFrom code fewest most ⌝ }
+    {
+        KeyFacts { code, fewest, most }
+    }
 }
 
 // A line with one number, judged.
@@ -45,86 +53,22 @@ pub fn key_facts(key: Key) -> KeyFacts
     ensures { λ r. ⌜ r ≡ factsOf key ⌝ }
 {
     match key {
-        Key::Types => KeyFacts {
-            code: 0,
-            fewest: 1,
-            most: 1,
-        },
-        Key::Row => KeyFacts {
-            code: 1,
-            fewest: 2,
-            most: 2,
-        },
-        Key::Def => KeyFacts {
-            code: 2,
-            fewest: 3,
-            most: 3,
-        },
-        Key::Var => KeyFacts {
-            code: 3,
-            fewest: 2,
-            most: 2,
-        },
-        Key::Forms => KeyFacts {
-            code: 4,
-            fewest: 1,
-            most: 1,
-        },
-        Key::Form => KeyFacts {
-            code: 5,
-            fewest: 2,
-            most: 2,
-        },
-        Key::Keep => KeyFacts {
-            code: 6,
-            fewest: 1,
-            most: 1,
-        },
-        Key::Init => KeyFacts {
-            code: 7,
-            fewest: 1,
-            most: 1,
-        },
-        Key::Body => KeyFacts {
-            code: 8,
-            fewest: 1,
-            most: 1,
-        },
-        Key::Main => KeyFacts {
-            code: 9,
-            fewest: 1,
-            most: 1,
-        },
-        Key::New => KeyFacts {
-            code: 10,
-            fewest: 1,
-            most: 9,
-        },
-        Key::Call => KeyFacts {
-            code: 11,
-            fewest: 3,
-            most: 3,
-        },
-        Key::Get => KeyFacts {
-            code: 12,
-            fewest: 1,
-            most: 1,
-        },
-        Key::Put => KeyFacts {
-            code: 13,
-            fewest: 2,
-            most: 2,
-        },
-        Key::Copy => KeyFacts {
-            code: 14,
-            fewest: 1,
-            most: 1,
-        },
-        Key::Unknown => KeyFacts {
-            code: 15,
-            fewest: 1,
-            most: 0,
-        },
+        Key::Types => KeyFacts::of(0, 1, 1),
+        Key::Row => KeyFacts::of(1, 2, 2),
+        Key::Def => KeyFacts::of(2, 3, 3),
+        Key::Var => KeyFacts::of(3, 2, 2),
+        Key::Forms => KeyFacts::of(4, 1, 1),
+        Key::Form => KeyFacts::of(5, 2, 2),
+        Key::Keep => KeyFacts::of(6, 1, 1),
+        Key::Init => KeyFacts::of(7, 1, 1),
+        Key::Body => KeyFacts::of(8, 1, 1),
+        Key::Main => KeyFacts::of(9, 1, 1),
+        Key::New => KeyFacts::of(10, 1, 9),
+        Key::Call => KeyFacts::of(11, 3, 3),
+        Key::Get => KeyFacts::of(12, 1, 1),
+        Key::Put => KeyFacts::of(13, 2, 2),
+        Key::Copy => KeyFacts::of(14, 1, 1),
+        Key::Unknown => KeyFacts::of(15, 1, 0),
     }
 }
 
