@@ -11,16 +11,17 @@ use lib.ListN.{length, getD, set, length-set, List·getD-eq-default}
 use lib.Seq.{getD-set-same, getD-set-other}
 use Rattle.lists.proofs.InLaws.{in-nil}
 use Rattle.lists.proofs.TabLaws.{getD-tab, length-tab}
+use Rattle.lists.proofs.Tests.{T→true}
 use Rattle.sheet_rules.specs.Answers.{isYes}
 use Rattle.sheet_rules.specs.Sheet.{Row, noRow, rowAt}
 use Rattle.sheet_rules.specs.WellFormed.{Mentions, LowerRows, WellFormedRow}
 use Rattle.type_rules.specs.Fit.{rowAnswer, fits}
-use Rattle.type_rules.proofs.FitLaws.{Agree, row-agree, fit-rule}
+use Rattle.type_rules.proofs.FitLaws.{Agree, row-agree, fit-rule, fits-refl}
 use Rattle.table.specs.Layout.{fitAddress, tableEnd, slotRowAddress, workSize}
 use Rattle.table.specs.View.{cell, rowIn, rowsIn}
 use Rattle.table.specs.Only.{Only}
 use Rattle.table.proofs.ViewLaws.{only-refl, only-trans, only-set, only→same, rowIn-same}
-use Rattle.fit.specs.Told.{word, saysFirst, saysSecond, tells, tellsBack, Comparable, ruleTells, ruleTellsBack, pairFilled, pairsFilled, rowsFilled, FitFilled}
+use Rattle.fit.specs.Told.{word, saysFirst, saysSecond, tells, tellsBack, Comparable, SelfFit, ruleTells, ruleTellsBack, pairFilled, pairsFilled, rowsFilled, FitFilled}
 use Rattle.fit.proofs.WordLaws.{first-word, second-word}
 
 -- filling changes the fit table alone
@@ -223,6 +224,26 @@ module _ (w : List ℕ) (n : ℕ) (r : Comparable n w) where
 
   pub all-filled : FitFilled n w (rowsFilled w n)
   all-filled = record { only = rows-only w n; cells = λ a b p q. (rows-settled n (omega arith)) .lower a b p q }
+
+  -- and each row that is done fits itself
+  pub rows-self : (m : ℕ) → m ≤ n → SelfFit m (rowsFilled w m)
+  rows-self m h a k = (rows-settled m h) .lower a a k k ∙ ap (λ (b : Bool). word b b) (T→true (fits (rowsIn w n) a a) (fits-refl (rowsIn w n) a))
+
+-- which stays so while a higher row is filled
+
+across-apart : (a b m k : ℕ) → a < m → b < m → k ≤ m → m < 64 → fitAddress a b ≡ fitAddress m k → ⊥
+across-apart a b m k h l i j e = omega arith
+
+down-apart : (a b m k : ℕ) → a < m → b < m → k ≤ m → m < 64 → fitAddress a b ≡ fitAddress k m → ⊥
+down-apart a b m k h l i j e = omega arith
+
+pub pairs-self : (w : List ℕ) (m k : ℕ) → m < 64 → k ≤ suc m → SelfFit m w → SelfFit m (pairsFilled w m k)
+unfolding pairsFilled pairFilled
+pairs-self w m zero h l s a u = s a u
+pairs-self w m (suc k) h l s a u =
+    set-neither (pairsFilled w m k) (fitAddress m k) (fitAddress k m) (fitAddress a a) (word (ruleTells (pairsFilled w m k) m k) (ruleTellsBack (pairsFilled w m k) m k))
+    (word (ruleTellsBack (pairsFilled w m k) m k) (ruleTells (pairsFilled w m k) m k)) (across-apart a a m k u u (omega arith) h) (down-apart a a m k u u (omega arith) h)
+    ∙ pairs-self w m k h (omega arith) s a u
 
 -- what a reader of a filled table has: its word is the rule's
 pub filled-tells : (n : ℕ) (w w′ : List ℕ) → FitFilled n w w′ → (a b : ℕ) → a < n → b < n → tells w′ a b ≡ fits (rowsIn w n) a b

@@ -1,6 +1,7 @@
 -- What two members of one name, and two rows, say of each other in both directions: a law for each exit. Assumes nothing.
-use Prim.Native.Nat.{ℕ, _+_, _≤_, _<_}
+use Prim.Native.Nat.{ℕ, suc, _+_, _≤_, _<_}
 use native.Mathlib.Omega.{arith}
+use native.Mathlib.Decide.{decLe}
 use mathlib.Core.Path.{_≡_, refl, sym, ap, ap₂, _∙_, subst}
 use mathlib.Core.Bool.{Bool, true, false, cond, _&&_}
 use mathlib.Core.List.{List}
@@ -24,7 +25,7 @@ use Rattle.type_rules.proofs.AgreeLaws.{mentions-more}
 use Rattle.table.specs.Layout.{rowAddress, fitAddress}
 use Rattle.table.specs.View.{cell, memberIn, rowIn}
 use Rattle.table.proofs.RowLaws.{members-length, members-getD}
-use Rattle.fit.specs.Told.{word, saysFirst, saysSecond, tells, tellsBack, BothMatch, Walked, ruleTells, ruleTellsBack}
+use Rattle.fit.specs.Told.{word, saysFirst, saysSecond, tells, tellsBack, Alike, BothMatch, Walked, ruleTells, ruleTellsBack}
 use Rattle.fit.proofs.WordLaws.{first-word, second-word, word-said, first-and, second-and}
 
 -- what the members of a row that was read give: there are at most eight, and they mention rows that the table has
@@ -33,12 +34,14 @@ module _ (w : List ℕ) (i : ℕ) (f : WellFormedRow i (rowIn w i)) where
   pub few-members : cell w (rowAddress i + 1) ≤ 8
   few-members = let e : length ((rowIn w i) .members) ≡ cell w (rowAddress i + 1) = members-length w i in let h = f .few in omega arith
 
-  pub small-mentions : (j : ℕ) → i < 64 → j < cell w (rowAddress i + 1) → T (mentionsBelow 64 (memberIn w i j))
-  small-mentions j h k =
-      mentions-more i 64 (omega arith) (memberIn w i j)
-      (subst (λ (x : Member). T (mentionsBelow i x)) (members-getD w i j k)
+  pub member-mentions : (j : ℕ) → j < cell w (rowAddress i + 1) → T (mentionsBelow i (memberIn w i j))
+  member-mentions j k =
+      subst (λ (x : Member). T (mentionsBelow i x)) (members-getD w i j k)
       (f .lower (getD ((rowIn w i) .members) j noMember)
-      (in-getD ((rowIn w i) .members) j noMember (let e : length ((rowIn w i) .members) ≡ cell w (rowAddress i + 1) = members-length w i in omega arith))))
+      (in-getD ((rowIn w i) .members) j noMember (let e : length ((rowIn w i) .members) ≡ cell w (rowAddress i + 1) = members-length w i in omega arith)))
+
+  pub small-mentions : (j : ℕ) → i < 64 → j < cell w (rowAddress i + 1) → T (mentionsBelow 64 (memberIn w i j))
+  small-mentions j h k = mentions-more i 64 (omega arith) (memberIn w i j) (member-mentions j k)
 
 -- the rows that a method mentions
 
@@ -136,3 +139,16 @@ module _ (w : List ℕ) (m k kinds said : ℕ)
 
   pub pair-turned : (t : ℕ) → t ≡ word (saysSecond said) (saysFirst said) → t ≡ word (ruleTellsBack w m k) (ruleTells w m k)
   pair-turned t h = h ∙ ap₂ word second-said first-said
+
+-- members that are the same, from the first on: none yet, one more
+
+module _ (w : List ℕ) (m k : ℕ) where
+  pub alike-none : Alike w m k 0
+  alike-none = record { first = omega arith; second = omega arith; same = λ t h. absurd (omega arith) }
+
+  pub alike-next : (n : ℕ) → Alike w m k n → n < cell w (rowAddress m + 1) → n < cell w (rowAddress k + 1) → memberIn w m n ≡ memberIn w k n → Alike w m k (n + 1)
+  alike-next n a h l e = record { first = omega arith; second = omega arith; same = λ t u. go t u (decLe (suc t) n) }
+    where
+      go : (t : ℕ) → t < n + 1 → Dec (suc t ≤ n) → memberIn w m t ≡ memberIn w k t
+      go t u (yes v) = a .same t v
+      go t u (no v) = let d : n ≡ t = omega arith in subst (λ (i : ℕ). memberIn w m i ≡ memberIn w k i) d e

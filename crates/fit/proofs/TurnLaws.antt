@@ -5,13 +5,16 @@ use mathlib.Core.Path.{_≡_, refl, sym, ap, ap₂, _∙_, subst}
 use mathlib.Core.Bool.{Bool, true, false, _&&_}
 use mathlib.Core.List.{List}
 use lib.Bits.{bitAnd, and-le-l}
-use Rattle.sheet_rules.specs.RowLines.{nameOf}
+use lib.Dec.{T}
+use Rattle.sheet_rules.specs.declared.Member.{Member}
+use Rattle.sheet_rules.specs.RowLines.{nameOf, mentionsBelow}
 use Rattle.sheet_rules.specs.WellFormed.{WellFormedRow}
 use Rattle.table.specs.Layout.{rowAddress}
 use Rattle.table.specs.View.{cell, memberIn, rowIn}
-use Rattle.fit.specs.Told.{saysFirst, saysSecond, tells, tellsBack, BothMatch, Walked}
+use Rattle.fit.specs.Told.{saysFirst, saysSecond, tells, tellsBack, SelfFit, Alike, BothMatch, Walked}
 use Rattle.fit.proofs.WordLaws.{first-and, second-and}
-use Rattle.fit.proofs.WalkLaws.{onward, onward-met, onward-none, onward-skip, onward-lack, onward-both}
+use Rattle.fit.proofs.MatchLaws.{member-mentions}
+use Rattle.fit.proofs.WalkLaws.{onward, onward-alike, onward-met, onward-none, onward-skip, onward-lack, onward-both}
 
 -- what is left of a word on rows m and k, with what their members from i and j on allow, is what there was with all of them
 pub record Going (w : List ℕ) (m k before i j left : ℕ) : Type 0 where
@@ -30,8 +33,27 @@ and-last true b e = e
 and-last false b e = refl
 
 module _ (w : List ℕ) (m k before : ℕ) where
-  pub begun : Going w m k before 0 0 before
-  begun = record { within = omega arith; first = refl; second = refl }
+  -- the walk begins after members that are the same in both rows
+  pub begun : (n : ℕ) → WellFormedRow m (rowIn w m) → WellFormedRow k (rowIn w k) → SelfFit m w → Alike w m k n
+      → Going w m k before n n before
+  begun n p q self a =
+      record {
+        within = omega arith;
+        first = ap (λ (b : Bool). saysFirst before && b) (sym (onward-alike (tells w) w m k m n there (p .names) (q .names) (a .first) (a .second) (a .same) lower));
+        second =
+            ap (λ (b : Bool). saysSecond before && b)
+            (sym (onward-alike (tellsBack w) w k m m n back (q .names) (p .names) (a .second) (a .first) (λ t u. sym (a .same t u))
+            (λ t u. subst (λ (x : Member). T (mentionsBelow m x)) (a .same t u) (lower t u))));
+      }
+    where
+      there : (x : ℕ) → x < m → tells w x x ≡ true
+      there x u = ap saysFirst (self x u)
+
+      back : (x : ℕ) → x < m → tellsBack w x x ≡ true
+      back x u = ap saysSecond (self x u)
+
+      lower : (t : ℕ) → t < n → T (mentionsBelow m (memberIn w m t))
+      lower t u = member-mentions w m p t (let e = a .first in omega arith)
 
   module _ (i j left : ℕ) (g : Going w m k before i j left) where
     pub turned : (i′ j′ found : ℕ) → onward (tells w) w m k i j ≡ (saysFirst found && onward (tells w) w m k i′ j′)

@@ -6,17 +6,18 @@ use native.Mathlib.Numerals.{add-one}
 use mathlib.Core.Path.{_≡_, refl, sym, ap, ap₂, _∙_, subst}
 use mathlib.Core.Bool.{Bool, true, false, cond, _&&_, _||_}
 use mathlib.Core.List.{List, [], _∷_}
-use lib.Dec.{eqb}
+use lib.Dec.{T, eqb, ltb, ltb→lt}
 use lib.ListN.{length, getD, drop, drop-of-length-le}
 use lib.Seq.{drop-cons}
-use borrow.Author.Tests.{ne-eqb}
+use borrow.Author.Tests.{eq-eqb, ne-eqb}
+use Rattle.lists.proofs.Tests.{and-left, and-right}
 use Rattle.sheet_rules.specs.declared.Member.{Member}
 use Rattle.sheet_rules.specs.declared.Member.the-variants.{Method, Field}
 use Rattle.sheet_rules.specs.declared.FitAnswer.{FitAnswer}
 use Rattle.sheet_rules.specs.declared.FitAnswer.the-variants.{Unmet}
 use Rattle.sheet_rules.specs.Answers.{isYes}
 use Rattle.sheet_rules.specs.Sheet.{noMember}
-use Rattle.sheet_rules.specs.RowLines.{nameOf}
+use Rattle.sheet_rules.specs.RowLines.{nameOf, mentionsBelow}
 use Rattle.sheet_rules.specs.WellFormed.{NamesAscend, end, above}
 use Rattle.type_rules.specs.Fit.{matches, hasMatch, membersAnswer}
 use Rattle.table.specs.Layout.{rowAddress}
@@ -135,3 +136,25 @@ module _ (f : ℕ → ℕ → Bool) (w : List ℕ) (a b i j : ℕ) where
     onward-both e =
         opened
         ∙ both f (memberIn w a i) (memberIn w b j) (drop (i + 1) ((rowIn w a) .members)) (drop (j + 1) ((rowIn w b) .members)) (left w a i p h) (left w b j q k) e
+
+-- a member is its own match where the rows that it mentions fit themselves
+
+own-match : (f : ℕ → ℕ → Bool) (bound : ℕ) → ((a : ℕ) → a < bound → f a a ≡ true) → (x : Member) → T (mentionsBelow bound x) → matches f x x ≡ true
+own-match f bound self (Method n a r) t =
+    ap₂ (λ (b c : Bool). b && f a a && c) (eq-eqb n n refl) (self r (ltb→lt r bound (and-right (ltb a bound) (ltb r bound) t)))
+    ∙ ap (λ (b : Bool). b && true) (self a (ltb→lt a bound (and-left (ltb a bound) (ltb r bound) t)))
+own-match f bound self (Field n r) t = ap₂ (λ (b c : Bool). b && c) (eq-eqb n n refl) (eq-eqb r r refl)
+
+-- so members that are the same in both rows may be passed over
+pub onward-alike : (f : ℕ → ℕ → Bool) (w : List ℕ) (a b bound n : ℕ) → ((x : ℕ) → x < bound → f x x ≡ true)
+    → NamesAscend 0 ((rowIn w a) .members) → NamesAscend 0 ((rowIn w b) .members)
+    → n ≤ cell w (rowAddress a + 1) → n ≤ cell w (rowAddress b + 1)
+    → ((t : ℕ) → t < n → memberIn w a t ≡ memberIn w b t) → ((t : ℕ) → t < n → T (mentionsBelow bound (memberIn w a t)))
+    → onward f w a b 0 0 ≡ onward f w a b n n
+onward-alike f w a b bound zero self p q h k same lower = refl
+onward-alike f w a b bound (suc n) self p q h k same lower =
+    onward-alike f w a b bound n self p q (omega arith) (omega arith) (λ t u. same t (omega arith)) (λ t u. lower t (omega arith))
+    ∙ onward-both f w a b n n p q h k (ap nameOf (same n (omega arith)))
+    ∙ ap₂ (λ (t : Bool) (i : ℕ). t && onward f w a b i i)
+    (subst (λ (y : Member). matches f (memberIn w a n) y ≡ true) (same n (omega arith)) (own-match f bound self (memberIn w a n) (lower n (omega arith))))
+    (add-one n)

@@ -10,7 +10,7 @@ use Rattle.sheet_rules.specs.Answers.{isYes}
 use Rattle.sheet_rules.specs.RowLines.{nameOf, mentionsBelow}
 use Rattle.sheet_rules.specs.WellFormed.{WellFormedRow}
 use Rattle.type_rules.specs.Fit.{matches, membersAnswer, rowAnswer, fits}
-use Rattle.table.specs.Layout.{fitAddress, tableEnd, slotRowAddress, workSize}
+use Rattle.table.specs.Layout.{rowAddress, fitAddress, tableEnd, slotRowAddress, workSize}
 use Rattle.table.specs.View.{cell, memberIn, rowIn, rowsIn}
 use Rattle.table.specs.Only.{Only}
 
@@ -39,6 +39,16 @@ pub record Comparable (n : ℕ) (w : List ℕ) : Type 0 where
   pub size : workSize ≤ length w
   pub few : n ≤ 64
   pub rows : (i : ℕ) → i < n → WellFormedRow i (rowIn w i)
+
+-- the table says of every row below m that it fits itself
+abbrev pub SelfFit : ℕ → List ℕ → Type 0
+SelfFit m w = (a : ℕ) → a < m → cell w (fitAddress a a) ≡ word true true
+
+-- rows m and k have n members, and the first n are the same
+pub record Alike (w : List ℕ) (m k n : ℕ) : Type 0 where
+  pub first : n ≤ cell w (rowAddress m + 1)
+  pub second : n ≤ cell w (rowAddress k + 1)
+  pub same : (t : ℕ) → t < n → memberIn w m t ≡ memberIn w k t
 
 -- member i of row m and member j of row k are there, have one name, and mention rows that the table has
 pub record MatchAt (w : List ℕ) (m i k j : ℕ) : Type 0 where

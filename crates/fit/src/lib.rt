@@ -7,9 +7,9 @@ ghost use lib.ListN.{length};
 ghost use Rattle.sheet_rules.specs.RowLines.{nameOf, mentionsBelow};
 ghost use Rattle.sheet_rules.specs.WellFormed.{WellFormedRow};
 ghost use Rattle.type_rules.specs.Fit.{kindFits};
-ghost use Rattle.table.specs.Layout.{fitAddress, workSize};
+ghost use Rattle.table.specs.Layout.{rowAddress, fitAddress, workSize};
 ghost use Rattle.table.specs.View.{cell as cellOf, memberIn, rowIn};
-ghost use Rattle.fit.specs.Told.{word, saysFirst, saysSecond, tells, Comparable, MatchAt, BothMatch, Walked, pairFilled, pairsFilled, FitFilled};
+ghost use Rattle.fit.specs.Told.{word, saysFirst, saysSecond, tells, Comparable, SelfFit, Alike, MatchAt, BothMatch, Walked, pairFilled, pairsFilled, FitFilled};
 use sheet_rules::Kind;
 use sheet_rules::Member;
 use table::rows::wide;
@@ -77,17 +77,41 @@ fn match_at(work: &[u16], m: usize, i: usize, k: usize, j: usize) -> u16
     both_match(work, x, y)
 }
 
-// What is left of the kinds' word on rows m and k once their members are compared. Names ascend in both rows, so one walk is
-// enough: a member of the lower name is one that the other row lacks.
+// How many members rows m and k begin with that are the same in both.
+fn alike(work: &[u16], m: usize, k: usize) -> usize
+    requires { ⌜ (m < 64) × (k < 64) × (cellOf (now work) (rowAddress m + 1) ≤ 8) × (cellOf (now work) (rowAddress k + 1) ≤ 8) × (workSize ≤ length (now work)) ⌝ }
+    ensures { λ r. ⌜ Alike (now (work .entry)) m k r ⌝ }
+{
+    let across = table::rows::member_count(work, m);
+    let down = table::rows::member_count(work, k);
+    let mut n: usize = 0;
+    while n < across {
+        if down <= n {
+            return n;
+        }
+        let x = table::rows::member(work, m, n);
+        let y = table::rows::member(work, k, n);
+        if !twins::same_member(x, y) {
+            return n;
+        }
+        n = n + 1;
+    }
+    n
+}
+
+// What is left of the kinds' word on rows m and k once their members are compared. Members that are the same match both ways, so
+// the walk begins after those. Names ascend in both rows, so one walk is enough: a member of the lower name is one that the other
+// row lacks.
 fn walk(work: &[u16], m: usize, k: usize, kinds: u16) -> u16
-    requires { ⌜ (m < 64) × (k < 64) × WellFormedRow m (rowIn (now work) m) × WellFormedRow k (rowIn (now work) k) × (workSize ≤ length (now work)) ⌝ }
+    requires { ⌜ (m < 64) × (k < 64) × WellFormedRow m (rowIn (now work) m) × WellFormedRow k (rowIn (now work) k) × (workSize ≤ length (now work)) × SelfFit m (now work) ⌝ }
     ensures { λ r. ⌜ Walked (now (work .entry)) m k kinds r ⌝ }
 {
     let across = table::rows::member_count(work, m);
     let down = table::rows::member_count(work, k);
+    let from = alike(work, m, k);
     let mut left = kinds;
-    let mut i: usize = 0;
-    let mut j: usize = 0;
+    let mut i = from;
+    let mut j = from;
     while left != 0 {
         if across <= i {
             if down <= j {
@@ -152,7 +176,7 @@ fn turn(said: u16) -> u16
 
 // Fills the cells (m, k) and (k, m).
 fn fill_pair(work: &mut [u16], m: usize, k: usize)
-    requires { ⌜ (k ≤ m) × Comparable (m + 1) (now work) ⌝ }
+    requires { ⌜ (k ≤ m) × Comparable (m + 1) (now work) × SelfFit m (now work) ⌝ }
     ensures { λ r. ⌜ now (work .exit) ≡ pairFilled (now (work .entry)) m k ⌝ }
 {
     let kinds = kinds_fit(work, m, k);
@@ -163,7 +187,7 @@ fn fill_pair(work: &mut [u16], m: usize, k: usize)
 
 // Fills the cells of row m with itself and the rows below it.
 fn fill_row(work: &mut [u16], m: usize)
-    requires { ⌜ Comparable (m + 1) (now work) ⌝ }
+    requires { ⌜ Comparable (m + 1) (now work) × SelfFit m (now work) ⌝ }
     ensures { λ r. ⌜ now (work .exit) ≡ pairsFilled (now (work .entry)) m (m + 1) ⌝ }
 {
     let mut k: usize = 0;

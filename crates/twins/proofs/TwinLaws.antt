@@ -5,10 +5,13 @@ use native.Mathlib.Decide.{decLe}
 use mathlib.Core.Path.{_≡_, refl, sym, ap, ap₂, _∙_, subst}
 use mathlib.Core.Bool.{Bool, true, false, _&&_, _||_}
 use mathlib.Core.List.{List, [], _∷_, _++_}
+use lib.Dec.{T, eqb, eqb→eq}
 use lib.ListN.{length}
 use Rattle.lists.specs.Tab.{tab}
 use Rattle.lists.proofs.TabLaws.{tab-suc, length-tab}
+use Rattle.lists.proofs.Tests.{and-left, and-right, true→T}
 use Rattle.sheet_rules.specs.declared.Member.{Member}
+use Rattle.sheet_rules.specs.declared.Member.the-variants.{Method, Field}
 use Rattle.sheet_rules.specs.Sheet.{Row}
 use Rattle.sheet_rules.specs.RowLines.{sameKind, sameMember, sameMembers, sameRow, twin}
 use Rattle.table.specs.Layout.{rowAddress}
@@ -126,3 +129,20 @@ module _ (w : List ℕ) (a b : ℕ) where
     rows-members p =
         ap (λ (x : Bool). x && sameMembers ((rowIn w a) .members) ((rowIn w b) .members)) e
         ∙ ap (λ (n : ℕ). sameMembers (membersIn w a n) (membersIn w b (cell w (rowAddress b + 1)))) p
+
+-- two members that are the same are equal
+pub member-equal : (x y : Member) → sameMember x y ≡ true → x ≡ y
+member-equal (Method n a r) (Method m b s) e =
+    let t : T (eqb n m && eqb a b && eqb r s) = true→T (eqb n m && eqb a b && eqb r s) e in
+    let u : T (eqb n m && eqb a b) = and-left (eqb n m && eqb a b) (eqb r s) t in
+    let p : n ≡ m = eqb→eq n m (and-left (eqb n m) (eqb a b) u) in
+    let q : a ≡ b = eqb→eq a b (and-right (eqb n m) (eqb a b) u) in
+    let v : r ≡ s = eqb→eq r s (and-right (eqb n m && eqb a b) (eqb r s) t) in
+    cc
+member-equal (Field n r) (Field m s) e =
+    let t : T (eqb n m && eqb r s) = true→T (eqb n m && eqb r s) e in
+    let p : n ≡ m = eqb→eq n m (and-left (eqb n m) (eqb r s) t) in
+    let v : r ≡ s = eqb→eq r s (and-right (eqb n m) (eqb r s) t) in
+    cc
+member-equal (Method n a r) (Field m s) e = absurd (subst T (sym e) tt)
+member-equal (Field n r) (Method m b s) e = absurd (subst T (sym e) tt)

@@ -69,7 +69,7 @@ fn same_field(name: u16, row: u16, b: Member) -> bool
 }
 
 // Two members are the same.
-fn same_member(a: Member, b: Member) -> bool
+pub fn same_member(a: Member, b: Member) -> bool
     ensures { λ r. ⌜ r ≡ sameMember a b ⌝ }
 {
     match a {

@@ -3,8 +3,8 @@ use native.Mathlib.Omega.{arith}
 use mathlib.Core.Path.{_≡_, refl, sym, ap, _∙_, subst}
 use mathlib.Core.List.{List}
 use lib.ListN.{length}
-use Rattle.fit.specs.Told.{Comparable, pairsFilled, rowsFilled, FitFilled}
-use Rattle.fit.proofs.FillLaws.{rows-only, comparable-kept, rows-next, all-filled}
+use Rattle.fit.specs.Told.{Comparable, SelfFit, pairsFilled, rowsFilled, FitFilled}
+use Rattle.fit.proofs.FillLaws.{rows-only, comparable-kept, rows-next, rows-self, all-filled}
 use Rattle.fit.proofs.fill.Statement.{statement}
 use Rattle.fit.proofs.fill.Tie as tie
 
@@ -22,8 +22,11 @@ loop-holds c = (omega arith, refl)
 -- src/lib.rt:144:9
 fill-row-requires : tie.Need-fill-row-requires Inv-loop μ-loop
 fill-row-requires c κs =
-    subst (λ (v : List ℕ). Comparable (c .before .before .loop .m + 1) v) (sym (c .before .before .loop .inv .1))
-    (comparable-kept (c .before .before .before .before .args .rows) (c .before .before .loop .m + 1) (c .before .before .before .before .args .work .now) (rowsFilled (c .before .before .before .before .args .work .now) (c .before .before .loop .m)) (omega arith) (c .before .before .before .before .pre) (rows-only (c .before .before .before .before .args .work .now) (c .before .before .loop .m)))
+    let s = c .before .before .loop .inv .1 in (
+      subst (λ (v : List ℕ). Comparable (c .before .before .loop .m + 1) v) (sym s)
+          (comparable-kept (c .before .before .before .before .args .rows) (c .before .before .loop .m + 1) (c .before .before .before .before .args .work .now) (rowsFilled (c .before .before .before .before .args .work .now) (c .before .before .loop .m)) (omega arith) (c .before .before .before .before .pre) (rows-only (c .before .before .before .before .args .work .now) (c .before .before .loop .m))),
+      subst (λ (v : List ℕ). SelfFit (c .before .before .loop .m) v) (sym s) (rows-self (c .before .before .before .before .args .work .now) (c .before .before .before .before .args .rows) (c .before .before .before .before .pre) (c .before .before .loop .m) (c .before .before .loop .inv .0)),
+    )
 
 -- src/lib.rt:145:13
 add-m : tie.Need-add-m Inv-loop μ-loop

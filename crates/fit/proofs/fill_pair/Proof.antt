@@ -15,7 +15,7 @@ walk-requires c κs =
     let r = c .before .before .before .before .pre .1 in
     let h = c .before .before .before .before .pre .0 in
     let l = r .few in
-    (omega arith, omega arith, r .rows (c .before .before .before .before .args .m) (omega arith), r .rows (c .before .before .before .before .args .k) (omega arith), r .size)
+    (omega arith, omega arith, r .rows (c .before .before .before .before .args .m) (omega arith), r .rows (c .before .before .before .before .args .k) (omega arith), r .size, c .before .before .before .before .pre .2)
 
 -- src/lib.rt:160:22
 fit-place-requires : tie.Need-fit-place-requires

@@ -3,8 +3,8 @@ use native.Mathlib.Omega.{arith}
 use mathlib.Core.Path.{_≡_, refl, sym, ap, _∙_, subst}
 use mathlib.Core.List.{List}
 use lib.ListN.{length}
-use Rattle.fit.specs.Told.{Comparable, pairFilled, pairsFilled}
-use Rattle.fit.proofs.FillLaws.{pairs-only, comparable-kept, pairs-next}
+use Rattle.fit.specs.Told.{Comparable, SelfFit, pairFilled, pairsFilled}
+use Rattle.fit.proofs.FillLaws.{pairs-only, comparable-kept, pairs-next, pairs-self}
 use Rattle.fit.proofs.fill_row.Statement.{statement}
 use Rattle.fit.proofs.fill_row.Tie as tie
 
@@ -21,15 +21,20 @@ loop-holds c = (omega arith, refl)
 
 -- src/lib.rt:132:9
 fill-pair-requires : tie.Need-fill-pair-requires Inv-loop μ-loop
-fill-pair-requires c κs = (
-  c .before .loop-test .taken,
-  subst (λ (v : List ℕ). Comparable (c .before .before .before .before .args .m + 1) v) (sym (c .before .before .loop .inv .1))
-      (comparable-kept (c .before .before .before .before .args .m + 1) (c .before .before .before .before .args .m + 1) (c .before .before .before .before .args .work .now) (pairsFilled (c .before .before .before .before .args .work .now) (c .before .before .before .before .args .m) (c .before .before .loop .k)) (omega arith) (c .before .before .before .before .pre) (pairs-only (c .before .before .before .before .args .work .now) (c .before .before .before .before .args .m) (c .before .before .loop .k))),
-)
+fill-pair-requires c κs =
+    let s = c .before .before .loop .inv .1 in
+    let r = c .before .before .before .before .pre .0 in
+    let few = r .few in (
+      c .before .loop-test .taken,
+      subst (λ (v : List ℕ). Comparable (c .before .before .before .before .args .m + 1) v) (sym s)
+          (comparable-kept (c .before .before .before .before .args .m + 1) (c .before .before .before .before .args .m + 1) (c .before .before .before .before .args .work .now) (pairsFilled (c .before .before .before .before .args .work .now) (c .before .before .before .before .args .m) (c .before .before .loop .k)) (omega arith) r (pairs-only (c .before .before .before .before .args .work .now) (c .before .before .before .before .args .m) (c .before .before .loop .k))),
+      subst (λ (v : List ℕ). SelfFit (c .before .before .before .before .args .m) v) (sym s)
+          (pairs-self (c .before .before .before .before .args .work .now) (c .before .before .before .before .args .m) (c .before .before .loop .k) (omega arith) (let h = c .before .before .loop .inv .0 in omega arith) (c .before .before .before .before .pre .1)),
+    )
 
 -- src/lib.rt:133:13
 add-k : tie.Need-add-k Inv-loop μ-loop
-add-k c = let r = c .before .before .before .before .before .before .before .pre .few in omega arith
+add-k c = let r = c .before .before .before .before .before .before .before .pre .0 .few in omega arith
 
 -- src/lib.rt:131:5
 loop-less : tie.Need-loop-less Inv-loop μ-loop

@@ -1,0 +1,102 @@
+use Prim.Native.Nat.{_-_}
+use native.Mathlib.Omega.{arith}
+use mathlib.Core.Path.{sym, _∙_}
+use borrow.Author.Tests.{not-false}
+use Rattle.twins.proofs.TwinLaws.{member-equal}
+use Rattle.fit.specs.Told.{Alike}
+use Rattle.fit.proofs.MatchLaws.{alike-none, alike-next}
+use Rattle.fit.proofs.alike.Statement.{statement}
+use Rattle.fit.proofs.alike.Tie as tie
+
+abbrev Inv-loop : tie.InvT-loop
+Inv-loop work m k across down n₀ n = Alike work m k n
+
+abbrev μ-loop : tie.MeasureT-loop
+μ-loop work m k across down n₀ n = across - n
+
+-- src/lib.rt:85:9
+member-count-requires : tie.Need-member-count-requires Inv-loop μ-loop
+member-count-requires c κs = (c .before .pre .0, c .before .pre .4)
+
+-- src/lib.rt:86:9
+member-count-requires-2 : tie.Need-member-count-requires-2 Inv-loop μ-loop
+member-count-requires-2 c κs = (c .before .before .pre .1, c .before .before .pre .4)
+
+-- src/lib.rt:88:5
+loop-holds : tie.Need-loop-holds Inv-loop μ-loop
+loop-holds c = alike-none (c .before .before .before .args .work .now) (c .before .before .before .args .m) (c .before .before .before .args .k)
+
+-- src/lib.rt:90:13
+returns : tie.Need-returns Inv-loop μ-loop
+returns c = c .before .before .loop .inv
+
+-- src/lib.rt:92:13
+member-requires : tie.Need-member-requires Inv-loop μ-loop
+member-requires c κs =
+    let a = c .before .before .before .before .member-count .ensures in
+    let h = c .before .loop-test .taken in
+    let l = c .before .before .before .before .before .before .pre .2 in
+    (c .before .before .before .before .before .before .pre .0, omega arith, c .before .before .before .before .before .before .pre .4)
+
+-- src/lib.rt:93:13
+member-requires-2 : tie.Need-member-requires-2 Inv-loop μ-loop
+member-requires-2 c κs =
+    let b = c .before .before .before .before .member-count2 .ensures in
+    let h = c .before .if1 .left in
+    let l = c .before .before .before .before .before .before .before .pre .3 in
+    (c .before .before .before .before .before .before .before .pre .1, omega arith, c .before .before .before .before .before .before .before .pre .4)
+
+-- src/lib.rt:94:13
+same-member-requires : tie.Need-same-member-requires Inv-loop μ-loop
+same-member-requires c κs = tt
+
+-- src/lib.rt:95:13
+returns-2 : tie.Need-returns-2 Inv-loop μ-loop
+returns-2 c = c .before .before .before .before .before .before .loop .inv
+
+-- src/lib.rt:97:13
+add-n : tie.Need-add-n Inv-loop μ-loop
+add-n c =
+    let a = c .before .before .before .before .before .before .before .before .member-count .ensures in
+    let h = c .before .before .before .before .before .loop-test .taken in
+    let l = c .before .before .before .before .before .before .before .before .before .before .pre .2 in
+    omega arith
+
+-- src/lib.rt:88:5
+loop-less : tie.Need-loop-less Inv-loop μ-loop
+loop-less c = let h = c .before .before .before .before .before .loop-test .taken in omega arith
+
+-- src/lib.rt:88:5
+loop-again : tie.Need-loop-again Inv-loop μ-loop
+loop-again c =
+    let a = c .before .before .before .before .before .before .before .before .member-count .ensures in
+    let b = c .before .before .before .before .before .before .before .member-count2 .ensures in
+    let h = c .before .before .before .before .before .loop-test .taken in
+    let l = c .before .before .before .before .if1 .left in
+    alike-next (c .before .before .before .before .before .before .before .before .before .before .args .work .now) (c .before .before .before .before .before .before .before .before .before .before .args .m) (c .before .before .before .before .before .before .before .before .before .before .args .k) (c .before .before .before .before .before .before .loop .n) (c .before .before .before .before .before .before .loop .inv) (omega arith) (omega arith)
+    (sym (c .before .before .before .member .ensures)
+    ∙ member-equal (c .before .before .before .member .result) (c .before .before .member2 .result) (sym (c .before .same-member .ensures) ∙ not-false (c .before .same-member .result) (c .if2 .left))
+    ∙ c .before .before .member2 .ensures)
+
+-- src/lib.rt:81:1
+returns-3 : tie.Need-returns-3 Inv-loop μ-loop
+returns-3 c = c .before .loop .inv
+
+pub alike-spec : {M : Type 1} → statement M
+alike-spec =
+    tie.close
+    (tie.spec
+    Inv-loop
+    μ-loop
+    member-count-requires
+    member-count-requires-2
+    loop-holds
+    returns
+    member-requires
+    member-requires-2
+    same-member-requires
+    returns-2
+    add-n
+    loop-less
+    loop-again
+    returns-3)
