@@ -5,12 +5,12 @@ pub type Member = fn(usize, usize) -> String;
 
 /// Rows that may be the slowest for the fit question; the table says which
 /// are. No two rows fit each other both ways, or they would be equal. So the
-/// most that a sheet can do is to let both directions hold up to the last
-/// member.
+/// most that a sheet can do is to let one direction hold up to the last member
+/// of each pair, and both for as long as the members are the same.
 pub const SLOW: [(&str, Member); 4] = [
     ("alike but for the last method", last_method),
     ("alike but for the last result", last_result),
-    ("alike but for the last name", last_name),
+    ("alike but for the first result", first_result),
     ("each result the row before", each_result),
 ];
 
@@ -52,10 +52,9 @@ fn last_result(row: usize, place: usize) -> String {
     }
 }
 
-/// A name of the row's own, as far as there are names.
-fn last_name(row: usize, place: usize) -> String {
+fn first_result(row: usize, place: usize) -> String {
     match place {
-        7 => format!("def={},0,{}\n", 7 + row % 57, row - 1),
+        0 => format!("def=0,0,{}\n", row - 1),
         _ => alike(place),
     }
 }

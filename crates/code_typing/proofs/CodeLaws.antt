@@ -21,7 +21,7 @@ use Rattle.table.specs.View.{cell, instrIn, instrsIn, sheetIn}
 use Rattle.table.specs.Told.{slotRowsIn}
 use Rattle.table.specs.Whole.{Whole}
 use Rattle.table.proofs.ViewLaws.{SameTable, only→same, only-refl, only-set, only-trans, instrIn-same, sheetIn-same}
-use Rattle.fit.specs.Told.{saysFirst, tells}
+use Rattle.fit.specs.Told.{firstBit, tells}
 use Rattle.instr_typing.specs.declared.InstrJudged.{InstrJudged}
 use Rattle.instr_typing.specs.Told.{judgedOf}
 use Rattle.code_typing.specs.declared.Walked.{Walked}
@@ -42,7 +42,7 @@ module _ (w w′ : List ℕ) (o : OnlySlots w w′) where
   slots-instr p = instrIn-same w w′ table-same p
 
   pub slots-tells : tells w′ ≡ tells w
-  slots-tells = λ x a b. saysFirst (o .below (fitAddress a b) (omega arith) x)
+  slots-tells = λ x a b. firstBit (o .below (fitAddress a b) (omega arith) x)
 
   pub slots-whole : Whole w → Whole w′
   slots-whole h = record { size = omega (arith, o .size, h .size); sheet = subst WellFormed (sym slots-sheet) (h .sheet) }

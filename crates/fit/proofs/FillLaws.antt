@@ -21,8 +21,8 @@ use Rattle.table.specs.Layout.{fitAddress, tableEnd, slotRowAddress, workSize}
 use Rattle.table.specs.View.{cell, rowIn, rowsIn}
 use Rattle.table.specs.Only.{Only}
 use Rattle.table.proofs.ViewLaws.{only-refl, only-trans, only-set, only→same, rowIn-same}
-use Rattle.fit.specs.Told.{word, saysFirst, saysSecond, tells, tellsBack, Comparable, SelfFit, ruleTells, ruleTellsBack, pairFilled, pairsFilled, rowsFilled, FitFilled}
-use Rattle.fit.proofs.WordLaws.{first-word, second-word}
+use Rattle.fit.specs.Told.{twoBits, firstBit, secondBit, tells, tellsBack, Comparable, SelfFit, ruleTells, ruleTellsBack, pairFilled, pairsFilled, rowsFilled, FitFilled}
+use Rattle.fit.proofs.BitLaws.{first-bit, second-bit}
 
 -- filling changes the fit table alone
 
@@ -35,10 +35,10 @@ unfolding pairFilled
 pair-only w m k =
     only-trans
     (only-set tableEnd (slotRowAddress 0) w (fitAddress m k) said (omega arith) (omega arith))
-    (only-set tableEnd (slotRowAddress 0) (set w (fitAddress m k) said) (fitAddress k m) (word (ruleTellsBack w m k) (ruleTells w m k)) (omega arith) (omega arith))
+    (only-set tableEnd (slotRowAddress 0) (set w (fitAddress m k) said) (fitAddress k m) (twoBits (ruleTellsBack w m k) (ruleTells w m k)) (omega arith) (omega arith))
   where
     said : ℕ
-    said = word (ruleTells w m k) (ruleTellsBack w m k)
+    said = twoBits (ruleTells w m k) (ruleTellsBack w m k)
 
 pub pairs-only : (w : List ℕ) (m k : ℕ) → FitOnly w (pairsFilled w m k)
 unfolding pairsFilled
@@ -70,15 +70,15 @@ unfolding rowsFilled
 rows-next w m = ap (pairsFilled (rowsFilled w m) m) (add-one m) ∙ ap (rowsFilled w) (sym (add-one m))
 
 -- the two stores of a pair
-pub pair-stored : (w w′ w″ : List ℕ) (m k p q said back : ℕ) → said ≡ word (ruleTells w m k) (ruleTellsBack w m k)
-    → back ≡ word (ruleTellsBack w m k) (ruleTells w m k) → p ≡ fitAddress m k → w′ ≡ set w p said → q ≡ fitAddress k m → w″ ≡ set w′ q back
+pub pair-stored : (w w′ w″ : List ℕ) (m k p q said back : ℕ) → said ≡ twoBits (ruleTells w m k) (ruleTellsBack w m k)
+    → back ≡ twoBits (ruleTellsBack w m k) (ruleTells w m k) → p ≡ fitAddress m k → w′ ≡ set w p said → q ≡ fitAddress k m → w″ ≡ set w′ q back
     → w″ ≡ pairFilled w m k
 unfolding pairFilled
 pair-stored w w′ w″ m k p q said back t b ep e eq e′ =
     e′
     ∙ ap (λ (v : List ℕ). set v q back) e
     ∙ ap₂ (λ (i v : ℕ). set (set w i v) q back) ep t
-    ∙ ap₂ (λ (i v : ℕ). set (set w (fitAddress m k) (word (ruleTells w m k) (ruleTellsBack w m k))) i v) eq b
+    ∙ ap₂ (λ (i v : ℕ). set (set w (fitAddress m k) (twoBits (ruleTells w m k) (ruleTellsBack w m k))) i v) eq b
 
 -- a cell tells what was put there
 
@@ -97,9 +97,9 @@ set-neither w p q r x y d e = getD-set-other (set w p x) q r y 0 e ∙ getD-set-
 
 -- which cells are settled: those of the rows below m, and those of row m with the rows below k
 pub record Settled (rows : List Row) (w : List ℕ) (m k : ℕ) : Type 0 where
-  pub lower : (a b : ℕ) → a < m → b < m → cell w (fitAddress a b) ≡ word (fits rows a b) (fits rows b a)
-  pub across : (b : ℕ) → b < k → cell w (fitAddress m b) ≡ word (fits rows m b) (fits rows b m)
-  pub down : (a : ℕ) → a < k → cell w (fitAddress a m) ≡ word (fits rows a m) (fits rows m a)
+  pub lower : (a b : ℕ) → a < m → b < m → cell w (fitAddress a b) ≡ twoBits (fits rows a b) (fits rows b a)
+  pub across : (b : ℕ) → b < k → cell w (fitAddress m b) ≡ twoBits (fits rows m b) (fits rows b m)
+  pub down : (a : ℕ) → a < k → cell w (fitAddress a m) ≡ twoBits (fits rows a m) (fits rows m a)
 
 -- the rule's word is right where that on the rows below is
 rule-right : (rows : List Row) → LowerRows rows → (f : ℕ → ℕ → Bool) (w : List ℕ) (m a b : ℕ) → ((x y : ℕ) → x < m → y < m → f x y ≡ fits rows x y)
@@ -115,10 +115,10 @@ rule-right rows low f w m a b told p q e g =
 
 -- and where the rows below are settled, either way
 lower-told : (rows : List Row) (w : List ℕ) (m k : ℕ) → Settled rows w m k → (x y : ℕ) → x < m → y < m → tells w x y ≡ fits rows x y
-lower-told rows w m k s x y u v = ap saysFirst (s .lower x y u v) ∙ first-word (fits rows x y) (fits rows y x)
+lower-told rows w m k s x y u v = ap firstBit (s .lower x y u v) ∙ first-bit (fits rows x y) (fits rows y x)
 
 lower-told-back : (rows : List Row) (w : List ℕ) (m k : ℕ) → Settled rows w m k → (x y : ℕ) → x < m → y < m → tellsBack w x y ≡ fits rows x y
-lower-told-back rows w m k s x y u v = ap saysSecond (s .lower y x v u) ∙ second-word (fits rows y x) (fits rows x y)
+lower-told-back rows w m k s x y u v = ap secondBit (s .lower y x v u) ∙ second-bit (fits rows y x) (fits rows x y)
 
 -- one pair more
 pair-settled : (rows : List Row) → LowerRows rows → (w : List ℕ) (m k : ℕ) → Settled rows w m k → k ≤ m → m < 64 → workSize ≤ length w
@@ -138,10 +138,10 @@ pair-settled rows low w m k s h l z e g =
     back = rule-right rows low (tellsBack w) w m k m (lower-told-back rows w m k s) h (omega arith) g e
 
     said : ℕ
-    said = word (ruleTells w m k) (ruleTellsBack w m k)
+    said = twoBits (ruleTells w m k) (ruleTellsBack w m k)
 
     turned : ℕ
-    turned = word (ruleTellsBack w m k) (ruleTells w m k)
+    turned = twoBits (ruleTellsBack w m k) (ruleTells w m k)
 
     w′ : List ℕ
     w′ = set (set w (fitAddress m k) said) (fitAddress k m) turned
@@ -154,23 +154,23 @@ pair-settled rows low w m k s h l z e g =
     same p =
         let d : m ≡ k = omega arith in
         let c : ruleTells w m k ≡ ruleTellsBack w m k = there ∙ ap₂ (fits rows) d (sym d) ∙ sym back in
-        ap₂ word c (sym c)
+        ap₂ twoBits c (sym c)
 
-    across : (b : ℕ) → b < suc k → Dec (suc b ≤ k) → cell w′ (fitAddress m b) ≡ word (fits rows m b) (fits rows b m)
+    across : (b : ℕ) → b < suc k → Dec (suc b ≤ k) → cell w′ (fitAddress m b) ≡ twoBits (fits rows m b) (fits rows b m)
     across b p (yes q) = other m b (omega arith) (omega arith) ∙ s .across b q
     across b p (no q) =
         let d : k ≡ b = omega arith in
-        subst (λ (x : ℕ). cell w′ (fitAddress m x) ≡ word (fits rows m x) (fits rows x m)) d
-        (set-both w (fitAddress m k) (fitAddress k m) said turned (omega arith) same ∙ ap₂ word there back)
+        subst (λ (x : ℕ). cell w′ (fitAddress m x) ≡ twoBits (fits rows m x) (fits rows x m)) d
+        (set-both w (fitAddress m k) (fitAddress k m) said turned (omega arith) same ∙ ap₂ twoBits there back)
 
-    down : (a : ℕ) → a < suc k → Dec (suc a ≤ k) → cell w′ (fitAddress a m) ≡ word (fits rows a m) (fits rows m a)
+    down : (a : ℕ) → a < suc k → Dec (suc a ≤ k) → cell w′ (fitAddress a m) ≡ twoBits (fits rows a m) (fits rows m a)
     down a p (yes q) = other a m (omega arith) (omega arith) ∙ s .down a q
     down a p (no q) =
         let d : k ≡ a = omega arith in
-        subst (λ (x : ℕ). cell w′ (fitAddress x m) ≡ word (fits rows x m) (fits rows m x)) d
+        subst (λ (x : ℕ). cell w′ (fitAddress x m) ≡ twoBits (fits rows x m) (fits rows m x)) d
         (getD-set-same (set w (fitAddress m k) said) (fitAddress k m) turned 0
         (let t : length (set w (fitAddress m k) said) ≡ length w = length-set w (fitAddress m k) said in omega arith)
-        ∙ ap₂ word back there)
+        ∙ ap₂ twoBits back there)
 
 -- a row that is done is one of those below the next
 row-settled : (rows : List Row) (w : List ℕ) (m : ℕ) → Settled rows w m (suc m) → Settled rows w (suc m) 0
@@ -181,12 +181,12 @@ row-settled rows w m s =
       down = λ a p. absurd (omega arith);
     }
   where
-    go : (a b : ℕ) → a < suc m → b < suc m → Dec (suc a ≤ m) → Dec (suc b ≤ m) → cell w (fitAddress a b) ≡ word (fits rows a b) (fits rows b a)
+    go : (a b : ℕ) → a < suc m → b < suc m → Dec (suc a ≤ m) → Dec (suc b ≤ m) → cell w (fitAddress a b) ≡ twoBits (fits rows a b) (fits rows b a)
     go a b p q (yes u) (yes v) = s .lower a b u v
     go a b p q (yes u) (no v) =
-        let d : m ≡ b = omega arith in subst (λ (x : ℕ). cell w (fitAddress a x) ≡ word (fits rows a x) (fits rows x a)) d (s .down a p)
+        let d : m ≡ b = omega arith in subst (λ (x : ℕ). cell w (fitAddress a x) ≡ twoBits (fits rows a x) (fits rows x a)) d (s .down a p)
     go a b p q (no u) v =
-        let d : m ≡ a = omega arith in subst (λ (x : ℕ). cell w (fitAddress x b) ≡ word (fits rows x b) (fits rows b x)) d (s .across b q)
+        let d : m ≡ a = omega arith in subst (λ (x : ℕ). cell w (fitAddress x b) ≡ twoBits (fits rows x b) (fits rows b x)) d (s .across b q)
 
 -- the buffer's own rows, all along
 
@@ -227,7 +227,7 @@ module _ (w : List ℕ) (n : ℕ) (r : Comparable n w) where
 
   -- and each row that is done fits itself
   pub rows-self : (m : ℕ) → m ≤ n → SelfFit m (rowsFilled w m)
-  rows-self m h a k = (rows-settled m h) .lower a a k k ∙ ap (λ (b : Bool). word b b) (T→true (fits (rowsIn w n) a a) (fits-refl (rowsIn w n) a))
+  rows-self m h a k = (rows-settled m h) .lower a a k k ∙ ap (λ (b : Bool). twoBits b b) (T→true (fits (rowsIn w n) a a) (fits-refl (rowsIn w n) a))
 
 -- which stays so while a higher row is filled
 
@@ -241,10 +241,10 @@ pub pairs-self : (w : List ℕ) (m k : ℕ) → m < 64 → k ≤ suc m → SelfF
 unfolding pairsFilled pairFilled
 pairs-self w m zero h l s a u = s a u
 pairs-self w m (suc k) h l s a u =
-    set-neither (pairsFilled w m k) (fitAddress m k) (fitAddress k m) (fitAddress a a) (word (ruleTells (pairsFilled w m k) m k) (ruleTellsBack (pairsFilled w m k) m k))
-    (word (ruleTellsBack (pairsFilled w m k) m k) (ruleTells (pairsFilled w m k) m k)) (across-apart a a m k u u (omega arith) h) (down-apart a a m k u u (omega arith) h)
+    set-neither (pairsFilled w m k) (fitAddress m k) (fitAddress k m) (fitAddress a a) (twoBits (ruleTells (pairsFilled w m k) m k) (ruleTellsBack (pairsFilled w m k) m k))
+    (twoBits (ruleTellsBack (pairsFilled w m k) m k) (ruleTells (pairsFilled w m k) m k)) (across-apart a a m k u u (omega arith) h) (down-apart a a m k u u (omega arith) h)
     ∙ pairs-self w m k h (omega arith) s a u
 
 -- what a reader of a filled table has: its word is the rule's
 pub filled-tells : (n : ℕ) (w w′ : List ℕ) → FitFilled n w w′ → (a b : ℕ) → a < n → b < n → tells w′ a b ≡ fits (rowsIn w n) a b
-filled-tells n w w′ f a b h k = ap saysFirst (f .cells a b h k) ∙ first-word (fits (rowsIn w n) a b) (fits (rowsIn w n) b a)
+filled-tells n w w′ f a b h k = ap firstBit (f .cells a b h k) ∙ first-bit (fits (rowsIn w n) a b) (fits (rowsIn w n) b a)

@@ -1,4 +1,4 @@
-pub mod WordLaws
+pub mod BitLaws
 pub mod WalkLaws
 pub mod TurnLaws
 pub mod MatchLaws

@@ -25,8 +25,8 @@ use Rattle.type_rules.proofs.AgreeLaws.{mentions-more}
 use Rattle.table.specs.Layout.{rowAddress, fitAddress}
 use Rattle.table.specs.View.{cell, memberIn, rowIn}
 use Rattle.table.proofs.RowLaws.{members-length, members-getD}
-use Rattle.fit.specs.Told.{word, saysFirst, saysSecond, tells, tellsBack, Alike, BothMatch, Walked, ruleTells, ruleTellsBack}
-use Rattle.fit.proofs.WordLaws.{first-word, second-word, word-said, first-and, second-and}
+use Rattle.fit.specs.Told.{twoBits, firstBit, secondBit, tells, tellsBack, Alike, BothMatch, Walked, ruleTells, ruleTellsBack}
+use Rattle.fit.proofs.BitLaws.{first-bit, second-bit, bits-are, first-and, second-and}
 
 -- what the members of a row that was read give: there are at most eight, and they mention rows that the table has
 
@@ -64,11 +64,11 @@ module _ (w : List ℕ) (x y : Member) (named : nameOf x ≡ nameOf y) where
       record {
         first =
             first-and c d
-            ∙ ap₂ (λ (u v : ℕ). saysFirst u && saysFirst v) g h
+            ∙ ap₂ (λ (u v : ℕ). firstBit u && firstBit v) g h
             ∙ sym (ap₂ (matches (tells w)) p q ∙ ap (λ (b : Bool). b && tells w a′ a && tells w r r′) (eq-eqb n n′ same));
         second =
             second-and c d
-            ∙ ap₂ (λ (u v : ℕ). saysSecond u && saysSecond v) g h
+            ∙ ap₂ (λ (u v : ℕ). secondBit u && secondBit v) g h
             ∙ sym (ap₂ (matches (tellsBack w)) q p ∙ ap (λ (b : Bool). b && tellsBack w a a′ && tellsBack w r′ r) (eq-eqb n′ n (sym same)));
       }
     where
@@ -109,36 +109,36 @@ kinds-first true t = refl
 kinds-first false t = refl
 
 module _ (w : List ℕ) (m k kinds said : ℕ)
-    (e : kinds ≡ word (kindFits ((rowIn w m) .kind) ((rowIn w k) .kind)) (kindFits ((rowIn w k) .kind) ((rowIn w m) .kind)))
+    (e : kinds ≡ twoBits (kindFits ((rowIn w m) .kind) ((rowIn w k) .kind)) (kindFits ((rowIn w k) .kind) ((rowIn w m) .kind)))
     (r : Walked w m k kinds said) where
-  first-said : saysFirst said ≡ ruleTells w m k
+  first-said : firstBit said ≡ ruleTells w m k
   first-said =
       r .first
       ∙ ap (λ (b : Bool). b && isYes (membersAnswer (tells w) ((rowIn w m) .members) ((rowIn w k) .members)))
-      (ap saysFirst e ∙ first-word (kindFits ((rowIn w m) .kind) ((rowIn w k) .kind)) (kindFits ((rowIn w k) .kind) ((rowIn w m) .kind)))
+      (ap firstBit e ∙ first-bit (kindFits ((rowIn w m) .kind) ((rowIn w k) .kind)) (kindFits ((rowIn w k) .kind) ((rowIn w m) .kind)))
       ∙ kinds-first (kindFits ((rowIn w m) .kind) ((rowIn w k) .kind)) (membersAnswer (tells w) ((rowIn w m) .members) ((rowIn w k) .members))
 
-  second-said : saysSecond said ≡ ruleTellsBack w m k
+  second-said : secondBit said ≡ ruleTellsBack w m k
   second-said =
       r .second
       ∙ ap (λ (b : Bool). b && isYes (membersAnswer (tellsBack w) ((rowIn w k) .members) ((rowIn w m) .members)))
-      (ap saysSecond e ∙ second-word (kindFits ((rowIn w m) .kind) ((rowIn w k) .kind)) (kindFits ((rowIn w k) .kind) ((rowIn w m) .kind)))
+      (ap secondBit e ∙ second-bit (kindFits ((rowIn w m) .kind) ((rowIn w k) .kind)) (kindFits ((rowIn w k) .kind) ((rowIn w m) .kind)))
       ∙ kinds-first (kindFits ((rowIn w k) .kind) ((rowIn w m) .kind)) (membersAnswer (tellsBack w) ((rowIn w k) .members) ((rowIn w m) .members))
 
-  word-small : (a b : Bool) → word a b ≤ 3
-  word-small true true = omega arith
-  word-small true false = omega arith
-  word-small false true = omega arith
-  word-small false false = omega arith
+  bits-small : (a b : Bool) → twoBits a b ≤ 3
+  bits-small true true = omega arith
+  bits-small true false = omega arith
+  bits-small false true = omega arith
+  bits-small false false = omega arith
 
   pub said-small : said ≤ 3
-  said-small = let h = r .within in let l = word-small (kindFits ((rowIn w m) .kind) ((rowIn w k) .kind)) (kindFits ((rowIn w k) .kind) ((rowIn w m) .kind)) in omega (arith, e)
+  said-small = let h = r .within in let l = bits-small (kindFits ((rowIn w m) .kind) ((rowIn w k) .kind)) (kindFits ((rowIn w k) .kind) ((rowIn w m) .kind)) in omega (arith, e)
 
-  pub pair-said : said ≡ word (ruleTells w m k) (ruleTellsBack w m k)
-  pair-said = word-said said said-small ∙ ap₂ word first-said second-said
+  pub pair-said : said ≡ twoBits (ruleTells w m k) (ruleTellsBack w m k)
+  pair-said = bits-are said said-small ∙ ap₂ twoBits first-said second-said
 
-  pub pair-turned : (t : ℕ) → t ≡ word (saysSecond said) (saysFirst said) → t ≡ word (ruleTellsBack w m k) (ruleTells w m k)
-  pair-turned t h = h ∙ ap₂ word second-said first-said
+  pub pair-turned : (t : ℕ) → t ≡ twoBits (secondBit said) (firstBit said) → t ≡ twoBits (ruleTellsBack w m k) (ruleTells w m k)
+  pair-turned t h = h ∙ ap₂ twoBits second-said first-said
 
 -- members that are the same, from the first on: none yet, one more
 

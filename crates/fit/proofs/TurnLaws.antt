@@ -11,18 +11,18 @@ use Rattle.sheet_rules.specs.RowLines.{nameOf, mentionsBelow}
 use Rattle.sheet_rules.specs.WellFormed.{WellFormedRow}
 use Rattle.table.specs.Layout.{rowAddress}
 use Rattle.table.specs.View.{cell, memberIn, rowIn}
-use Rattle.fit.specs.Told.{saysFirst, saysSecond, tells, tellsBack, SelfFit, Alike, BothMatch, Walked}
-use Rattle.fit.proofs.WordLaws.{first-and, second-and}
+use Rattle.fit.specs.Told.{firstBit, secondBit, tells, tellsBack, SelfFit, Alike, BothMatch, Walked}
+use Rattle.fit.proofs.BitLaws.{first-and, second-and}
 use Rattle.fit.proofs.MatchLaws.{member-mentions}
 use Rattle.fit.proofs.WalkLaws.{onward, onward-alike, onward-met, onward-none, onward-skip, onward-lack, onward-both}
 
--- what is left of a word on rows m and k, with what their members from i and j on allow, is what there was with all of them
+-- what is left of two answers on rows m and k, with what their members from i and j on allow, is what there was with all of them
 pub record Going (w : List ℕ) (m k before i j left : ℕ) : Type 0 where
   pub within : left ≤ before
-  pub first : (saysFirst left && onward (tells w) w m k i j) ≡ (saysFirst before && onward (tells w) w m k 0 0)
-  pub second : (saysSecond left && onward (tellsBack w) w k m j i) ≡ (saysSecond before && onward (tellsBack w) w k m 0 0)
+  pub first : (firstBit left && onward (tells w) w m k i j) ≡ (firstBit before && onward (tells w) w m k 0 0)
+  pub second : (secondBit left && onward (tellsBack w) w k m j i) ≡ (secondBit before && onward (tellsBack w) w k m 0 0)
 
--- a turn takes out of the word what it found, and out of what is onward
+-- a turn takes what it found out of the answers, and out of what is onward
 
 and-moved : (a b c d : Bool) → d ≡ (b && c) → ((a && b) && c) ≡ (a && d)
 and-moved true b c d e = sym e
@@ -39,35 +39,35 @@ module _ (w : List ℕ) (m k before : ℕ) where
   begun n p q self a =
       record {
         within = omega arith;
-        first = ap (λ (b : Bool). saysFirst before && b) (sym (onward-alike (tells w) w m k m n there (p .names) (q .names) (a .first) (a .second) (a .same) lower));
+        first = ap (λ (b : Bool). firstBit before && b) (sym (onward-alike (tells w) w m k m n there (p .names) (q .names) (a .first) (a .second) (a .same) lower));
         second =
-            ap (λ (b : Bool). saysSecond before && b)
+            ap (λ (b : Bool). secondBit before && b)
             (sym (onward-alike (tellsBack w) w k m m n back (q .names) (p .names) (a .second) (a .first) (λ t u. sym (a .same t u))
             (λ t u. subst (λ (x : Member). T (mentionsBelow m x)) (a .same t u) (lower t u))));
       }
     where
       there : (x : ℕ) → x < m → tells w x x ≡ true
-      there x u = ap saysFirst (self x u)
+      there x u = ap firstBit (self x u)
 
       back : (x : ℕ) → x < m → tellsBack w x x ≡ true
-      back x u = ap saysSecond (self x u)
+      back x u = ap secondBit (self x u)
 
       lower : (t : ℕ) → t < n → T (mentionsBelow m (memberIn w m t))
       lower t u = member-mentions w m p t (let e = a .first in omega arith)
 
   module _ (i j left : ℕ) (g : Going w m k before i j left) where
-    pub turned : (i′ j′ found : ℕ) → onward (tells w) w m k i j ≡ (saysFirst found && onward (tells w) w m k i′ j′)
-        → onward (tellsBack w) w k m j i ≡ (saysSecond found && onward (tellsBack w) w k m j′ i′) → Going w m k before i′ j′ (bitAnd left found)
+    pub turned : (i′ j′ found : ℕ) → onward (tells w) w m k i j ≡ (firstBit found && onward (tells w) w m k i′ j′)
+        → onward (tellsBack w) w k m j i ≡ (secondBit found && onward (tellsBack w) w k m j′ i′) → Going w m k before i′ j′ (bitAnd left found)
     turned i′ j′ found p q =
         record {
           within = (let h = and-le-l left found in let l = g .within in omega arith);
           first =
               ap (λ (b : Bool). b && onward (tells w) w m k i′ j′) (first-and left found)
-              ∙ and-moved (saysFirst left) (saysFirst found) (onward (tells w) w m k i′ j′) (onward (tells w) w m k i j) p
+              ∙ and-moved (firstBit left) (firstBit found) (onward (tells w) w m k i′ j′) (onward (tells w) w m k i j) p
               ∙ g .first;
           second =
               ap (λ (b : Bool). b && onward (tellsBack w) w k m j′ i′) (second-and left found)
-              ∙ and-moved (saysSecond left) (saysSecond found) (onward (tellsBack w) w k m j′ i′) (onward (tellsBack w) w k m j i) q
+              ∙ and-moved (secondBit left) (secondBit found) (onward (tellsBack w) w k m j′ i′) (onward (tellsBack w) w k m j i) q
               ∙ g .second;
         }
 
@@ -77,29 +77,29 @@ module _ (w : List ℕ) (m k before : ℕ) where
     ended p q =
         record {
           within = g .within;
-          first = sym (and-last (saysFirst left) (onward (tells w) w m k i j) p) ∙ g .first;
-          second = sym (and-last (saysSecond left) (onward (tellsBack w) w k m j i) q) ∙ g .second;
+          first = sym (and-last (firstBit left) (onward (tells w) w m k i j) p) ∙ g .first;
+          second = sym (and-last (secondBit left) (onward (tellsBack w) w k m j i) q) ∙ g .second;
         }
 
-    -- or nothing is left of the word
+    -- or no answer is left
     pub spent : left ≡ 0 → Walked w m k before 0
     unfolding onward
     spent e =
         record {
           within = omega arith;
-          first = sym (ap (λ (n : ℕ). saysFirst n && onward (tells w) w m k i j) e) ∙ g .first;
-          second = sym (ap (λ (n : ℕ). saysSecond n && onward (tellsBack w) w k m j i) e) ∙ g .second;
+          first = sym (ap (λ (n : ℕ). firstBit n && onward (tells w) w m k i j) e) ∙ g .first;
+          second = sym (ap (λ (n : ℕ). secondBit n && onward (tellsBack w) w k m j i) e) ∙ g .second;
         }
 
   -- or one row has members left that the other lacks
-  pub stopped : (i j left found : ℕ) → Going w m k before i j left → onward (tells w) w m k i j ≡ saysFirst found
-      → onward (tellsBack w) w k m j i ≡ saysSecond found → Walked w m k before (bitAnd left found)
+  pub stopped : (i j left found : ℕ) → Going w m k before i j left → onward (tells w) w m k i j ≡ firstBit found
+      → onward (tellsBack w) w k m j i ≡ secondBit found → Walked w m k before (bitAnd left found)
   unfolding onward
   stopped i j left found g p q =
       record {
         within = (let h = and-le-l left found in let l = g .within in omega arith);
-        first = first-and left found ∙ ap (λ (b : Bool). saysFirst left && b) (sym p) ∙ g .first;
-        second = second-and left found ∙ ap (λ (b : Bool). saysSecond left && b) (sym q) ∙ g .second;
+        first = first-and left found ∙ ap (λ (b : Bool). firstBit left && b) (sym p) ∙ g .first;
+        second = second-and left found ∙ ap (λ (b : Bool). secondBit left && b) (sym q) ∙ g .second;
       }
 
 -- what the code meets on its way

@@ -14,25 +14,25 @@ use Rattle.table.specs.Layout.{rowAddress, fitAddress, tableEnd, slotRowAddress
 use Rattle.table.specs.View.{cell, memberIn, rowIn, rowsIn}
 use Rattle.table.specs.Only.{Only}
 
--- a word on two things: 1 in it says yes to the first, 2 yes to the second
-abbrev pub word : Bool → Bool → ℕ
-word true true = 3
-word true false = 1
-word false true = 2
-word false false = 0
+-- two answers as one number: 1 for the first, 2 for the second
+abbrev pub twoBits : Bool → Bool → ℕ
+twoBits true true = 3
+twoBits true false = 1
+twoBits false true = 2
+twoBits false false = 0
 
-abbrev pub saysFirst : ℕ → Bool
-saysFirst n = eqb (n % 2) 1
+abbrev pub firstBit : ℕ → Bool
+firstBit n = eqb (n % 2) 1
 
-abbrev pub saysSecond : ℕ → Bool
-saysSecond n = saysFirst (n / 2)
+abbrev pub secondBit : ℕ → Bool
+secondBit n = firstBit (n / 2)
 
 -- the table's word on row a fitting row b: the first of the cell (a, b), and the second of the cell (b, a)
 abbrev pub tells : List ℕ → ℕ → ℕ → Bool
-tells w a b = saysFirst (cell w (fitAddress a b))
+tells w a b = firstBit (cell w (fitAddress a b))
 
 abbrev pub tellsBack : List ℕ → ℕ → ℕ → Bool
-tellsBack w a b = saysSecond (cell w (fitAddress b a))
+tellsBack w a b = secondBit (cell w (fitAddress b a))
 
 -- a whole buffer with n rows that were read
 pub record Comparable (n : ℕ) (w : List ℕ) : Type 0 where
@@ -42,7 +42,7 @@ pub record Comparable (n : ℕ) (w : List ℕ) : Type 0 where
 
 -- the table says of every row below m that it fits itself
 abbrev pub SelfFit : ℕ → List ℕ → Type 0
-SelfFit m w = (a : ℕ) → a < m → cell w (fitAddress a a) ≡ word true true
+SelfFit m w = (a : ℕ) → a < m → cell w (fitAddress a a) ≡ twoBits true true
 
 -- rows m and k have n members, and the first n are the same
 pub record Alike (w : List ℕ) (m k n : ℕ) : Type 0 where
@@ -59,14 +59,14 @@ pub record MatchAt (w : List ℕ) (m i k j : ℕ) : Type 0 where
 
 -- r says whether x is the match of y, and y that of x
 pub record BothMatch (w : List ℕ) (x y : Member) (r : ℕ) : Type 0 where
-  pub first : saysFirst r ≡ matches (tells w) x y
-  pub second : saysSecond r ≡ matches (tellsBack w) y x
+  pub first : firstBit r ≡ matches (tells w) x y
+  pub second : secondBit r ≡ matches (tellsBack w) y x
 
--- r keeps of a word on rows m and k what their members allow: that each member of k has its match in m, and the other way round
+-- r has of two answers on rows m and k what their members allow: that each member of k has its match in m, and the other way round
 pub record Walked (w : List ℕ) (m k before r : ℕ) : Type 0 where
   pub within : r ≤ before
-  pub first : saysFirst r ≡ (saysFirst before && isYes (membersAnswer (tells w) ((rowIn w m) .members) ((rowIn w k) .members)))
-  pub second : saysSecond r ≡ (saysSecond before && isYes (membersAnswer (tellsBack w) ((rowIn w k) .members) ((rowIn w m) .members)))
+  pub first : firstBit r ≡ (firstBit before && isYes (membersAnswer (tells w) ((rowIn w m) .members) ((rowIn w k) .members)))
+  pub second : secondBit r ≡ (secondBit before && isYes (membersAnswer (tellsBack w) ((rowIn w k) .members) ((rowIn w m) .members)))
 
 -- the rule's word on rows m and k, where the table's is taken for the rows that their members mention
 abbrev pub ruleTells : List ℕ → ℕ → ℕ → Bool
@@ -78,7 +78,7 @@ ruleTellsBack w m k = isYes (rowAnswer (tellsBack w) (rowIn w k) (rowIn w m))
 -- the cells (m, k) and (k, m) filled
 unfoldable pub pairFilled : List ℕ → ℕ → ℕ → List ℕ
 pairFilled w m k =
-    set (set w (fitAddress m k) (word (ruleTells w m k) (ruleTellsBack w m k))) (fitAddress k m) (word (ruleTellsBack w m k) (ruleTells w m k))
+    set (set w (fitAddress m k) (twoBits (ruleTells w m k) (ruleTellsBack w m k))) (fitAddress k m) (twoBits (ruleTellsBack w m k) (ruleTells w m k))
 
 -- the cells of row m with the rows below k filled
 unfoldable pub pairsFilled : List ℕ → ℕ → ℕ → List ℕ
@@ -93,4 +93,4 @@ rowsFilled w (suc m) = pairsFilled (rowsFilled w m) m (suc m)
 -- the whole table of n rows is filled: each cell says whether its rows fit, there and back, and nothing else is changed
 pub record FitFilled (n : ℕ) (w w′ : List ℕ) : Type 0 where
   pub only : Only tableEnd (slotRowAddress 0) w w′
-  pub cells : (a b : ℕ) → a < n → b < n → cell w′ (fitAddress a b) ≡ word (fits (rowsIn w n) a b) (fits (rowsIn w n) b a)
+  pub cells : (a b : ℕ) → a < n → b < n → cell w′ (fitAddress a b) ≡ twoBits (fits (rowsIn w n) a b) (fits (rowsIn w n) b a)

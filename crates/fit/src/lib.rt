@@ -9,7 +9,7 @@ ghost use Rattle.sheet_rules.specs.WellFormed.{WellFormedRow};
 ghost use Rattle.type_rules.specs.Fit.{kindFits};
 ghost use Rattle.table.specs.Layout.{rowAddress, fitAddress, workSize};
 ghost use Rattle.table.specs.View.{cell as cellOf, memberIn, rowIn};
-ghost use Rattle.fit.specs.Told.{word, saysFirst, saysSecond, tells, Comparable, SelfFit, Alike, MatchAt, BothMatch, Walked, pairFilled, pairsFilled, FitFilled};
+ghost use Rattle.fit.specs.Told.{twoBits, firstBit, secondBit, tells, Comparable, SelfFit, Alike, MatchAt, BothMatch, Walked, pairFilled, pairsFilled, FitFilled};
 use sheet_rules::Kind;
 use sheet_rules::Member;
 use table::rows::wide;
@@ -99,7 +99,7 @@ fn alike(work: &[u16], m: usize, k: usize) -> usize
     n
 }
 
-// What is left of the kinds' word on rows m and k once their members are compared. Members that are the same match both ways, so
+// What is left of the kinds' answers on rows m and k once their members are compared. Members that are the same match both ways, so
 // the walk begins after those. Names ascend in both rows, so one walk is enough: a member of the lower name is one that the other
 // row lacks.
 fn walk(work: &[u16], m: usize, k: usize, kinds: u16) -> u16
@@ -144,7 +144,7 @@ fn walk(work: &[u16], m: usize, k: usize, kinds: u16) -> u16
 // Whether row m may fit row k by their kinds, and k m.
 fn kinds_fit(work: &[u16], m: usize, k: usize) -> u16
     requires { ⌜ (m < 64) × (k < 64) × (workSize ≤ length (now work)) ⌝ }
-    ensures { λ r. ⌜ r ≡ word (kindFits ((rowIn (now (work .entry)) m) .kind) ((rowIn (now (work .entry)) k) .kind)) (kindFits ((rowIn (now (work .entry)) k) .kind) ((rowIn (now (work .entry)) m) .kind)) ⌝ }
+    ensures { λ r. ⌜ r ≡ twoBits (kindFits ((rowIn (now (work .entry)) m) .kind) ((rowIn (now (work .entry)) k) .kind)) (kindFits ((rowIn (now (work .entry)) k) .kind) ((rowIn (now (work .entry)) m) .kind)) ⌝ }
 {
     let a = table::rows::row_kind(work, m);
     let b = table::rows::row_kind(work, k);
@@ -160,10 +160,10 @@ fn kinds_fit(work: &[u16], m: usize, k: usize) -> u16
     }
 }
 
-// A word on two rows, as one on the same rows the other way round.
+// Two answers on two rows, as those on the same rows the other way round.
 fn turn(said: u16) -> u16
     requires { ⌜ said ≤ 3 ⌝ }
-    ensures { λ r. ⌜ r ≡ word (saysSecond said) (saysFirst said) ⌝ }
+    ensures { λ r. ⌜ r ≡ twoBits (secondBit said) (firstBit said) ⌝ }
 {
     if said == 1 {
         return 2;
