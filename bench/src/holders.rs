@@ -1,10 +1,10 @@
 //! The authority of every holder, beside the second program.
 
 use crate::pairs::{self, Asked};
-use crate::programs::{entries, Question};
+use crate::programs::Question;
 use crate::sheets;
 use crate::table::Table;
-use boundary::{REPORT, WORK};
+use boundary::{entries, REPORT, WORK};
 use second::machine::{Machine, STACK, STORE};
 
 /// Prints the table.

@@ -1,8 +1,7 @@
 //! The programs that are compared, and the questions that they are asked.
 
 use crate::{plain, threaded};
-use boundary::{REPORT, WORK};
-use second::authority::{authority_of, holders};
+use boundary::{entries, REPORT, WORK};
 use second::machine::Machine;
 use second::{Refusal, RunAnswer, Sheet};
 use std::cell::RefCell;
@@ -171,15 +170,4 @@ fn judged(verdict: Result<(), Refusal>) -> Answer {
 fn ran(run: RunAnswer) -> Answer {
     let (value, objects) = (run.value.into(), run.objects.into());
     [0, 0, run.outcome as u32, run.steps, value, objects, 0]
-}
-
-/// A report's numbers: main's entry, then every resource object's.
-pub fn entries(machine: &Machine) -> Vec<u16> {
-    let mut numbers = Vec::new();
-    for holder in holders(machine) {
-        let held = authority_of(machine, holder.into()).expect("a holder");
-        numbers.extend([holder, held.len() as u16]);
-        numbers.extend(held);
-    }
-    numbers
 }

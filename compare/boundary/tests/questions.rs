@@ -4,10 +4,10 @@
 mod common;
 
 use boundary::{
-    authority, fit, report, run, verdict, AuthorityResult, FitResult, ReportResult, RunResult,
-    VerdictResult, AUTHORITY, REPORT, WORK,
+    authority, entries, fit, report, run, verdict, AuthorityResult, FitResult, ReportResult,
+    RunResult, VerdictResult, AUTHORITY, REPORT, WORK,
 };
-use common::{budget_for, draw, entries, is_left_clean, is_written, noise};
+use common::{budget_for, draw, is_left_clean, is_written, noise};
 use second::machine::Machine;
 use second::Refusal;
 use std::fmt::Debug;

@@ -2,8 +2,8 @@
 
 mod common;
 
-use boundary::{report, ReportResult, REPORT, WORK};
-use common::{budget_for, draw, entries, is_left_clean, is_written, noise};
+use boundary::{entries, report, ReportResult, REPORT, WORK};
+use common::{budget_for, draw, is_left_clean, is_written, noise};
 use second::machine::Machine;
 use second::{Refusal, RunAnswer};
 

@@ -44,7 +44,7 @@ pub record Comparable (n : ℕ) (w : List ℕ) : Type 0 where
 abbrev pub SelfFit : ℕ → List ℕ → Type 0
 SelfFit m w = (a : ℕ) → a < m → cell w (fitAddress a a) ≡ twoBits true true
 
--- rows m and k have n members, and the first n are the same
+-- rows m and k have n members or more, and the first n are the same
 pub record Alike (w : List ℕ) (m k n : ℕ) : Type 0 where
   pub first : n ≤ cell w (rowAddress m + 1)
   pub second : n ≤ cell w (rowAddress k + 1)

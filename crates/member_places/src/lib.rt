@@ -14,7 +14,7 @@ use table::rows::wide;
 // Stores the number of a member of form f's row, where j members come before it, `fields` of them fields: a method's number is
 // that of its part, a field's its place among the fields. Answers how many fields there are up to it.
 fn place_member(work: &mut [u16], f: usize, m: Member, j: usize, fields: usize) -> usize
-    requires { ⌜ (j < 8) × (fields ≤ j) ⌝ }
+    requires { ⌜ (j < 8) × (fields ≤ j) × (workSize ≤ length (now work)) ⌝ }
     ensures { λ r. ⌜ (r ≡ fieldsAfter m fields) × (now (work .exit) ≡ memberPlaced (now (work .entry)) f m j fields) ⌝ }
 {
     match m {

@@ -1,7 +1,8 @@
 // The table in the work buffer: its layout is in specs/Layout, what it holds in specs/View. All reads and writes of the sheet go
 // through here.
 ghost use mathlib.Core.Path.{_≡_};
-ghost use lib.ListN.{set};
+ghost use Prim.Native.Nat.{_<_};
+ghost use lib.ListN.{length, set};
 ghost use Rattle.table.specs.View.{cell as cellOf};
 
 pub mod forms;
@@ -19,11 +20,10 @@ pub fn cell(work: &[u16], at: usize) -> u16
     0
 }
 
-// Sets the number at a place; past the end nothing changes.
+// Sets the number at a place that is there.
 pub fn put(work: &mut [u16], at: usize, v: u16)
+    requires { ⌜ at < length (now work) ⌝ }
     ensures { λ r. ⌜ now (work .exit) ≡ set (now (work .entry)) at v ⌝ }
 {
-    if at < work.len() {
-        work[at] = v;
-    }
+    work[at] = v;
 }

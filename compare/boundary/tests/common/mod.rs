@@ -2,7 +2,6 @@
 #![allow(dead_code)]
 
 use boundary::WORK;
-use second::authority::{authority_of, holders};
 use second::machine::Machine;
 use second::{Outcome, Sheet};
 
@@ -66,15 +65,4 @@ pub fn budget_for(sheet: &Sheet, seed: u64) -> u32 {
         _ if ends => number,
         _ => number % LONG,
     }
-}
-
-/// A report's numbers: main's entry, then every resource object's.
-pub fn entries(machine: &Machine) -> Vec<u16> {
-    let mut numbers = Vec::new();
-    for holder in holders(machine) {
-        let held = authority_of(machine, holder.into()).expect("a holder");
-        numbers.extend([holder, held.len() as u16]);
-        numbers.extend(held);
-    }
-    numbers
 }

@@ -27,7 +27,11 @@ member-requires c κs =
 
 -- src/lib.rt:40:9
 place-member-requires : tie.Need-place-member-requires Inv-loop μ-loop
-place-member-requires c κs = (omega (arith, c .before .before .before .before .before .members-at .ensures .1), c .before .before .before .before .loop .inv .few)
+place-member-requires c κs = (
+  omega (arith, c .before .before .before .before .before .members-at .ensures .1),
+  c .before .before .before .before .loop .inv .few,
+  (let s = c .before .before .before .before .loop .inv .only .size in let z = c .before .before .before .before .before .before .before .before .pre .size in omega arith),
+)
 
 -- src/lib.rt:41:13
 add-j : tie.Need-add-j Inv-loop μ-loop
