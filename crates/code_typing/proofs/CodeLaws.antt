@@ -7,7 +7,7 @@ use mathlib.Core.Bool.{Bool, true, false}
 use mathlib.Core.List.{List, [], _∷_, _++_}
 use mathlib.Core.Option.{Option, none, some}
 use lib.Dec.{eqb}
-use lib.ListN.{length, getD, set, drop, drop-of-length-le}
+use lib.ListN.{length, set, drop, drop-of-length-le}
 use lib.Seq.{drop-cons, getD-set-same, getD-set-other}
 use borrow.Author.Tests.{eqb-true, eqb-false}
 use Rattle.lists.proofs.TabLaws.{tab-suc, tab-ext, length-tab, getD-tab}
@@ -16,7 +16,7 @@ use Rattle.sheet_rules.specs.declared.Reason.{Reason}
 use Rattle.sheet_rules.specs.Sheet.{Instr, copy, Sheet}
 use Rattle.sheet_rules.specs.WellFormed.{WellFormed}
 use Rattle.type_rules.specs.Typing.{Fault, Own, firstOf, instrFault, resultFault, slotRow, instrFaults}
-use Rattle.table.specs.Layout.{fitAddress, slotRowAddress, tableEnd, workSize}
+use Rattle.table.specs.Layout.{fitAddress, slotRowAddress, workSize}
 use Rattle.table.specs.View.{cell, instrIn, instrsIn, sheetIn}
 use Rattle.table.specs.Told.{slotRowsIn}
 use Rattle.table.specs.Whole.{Whole}

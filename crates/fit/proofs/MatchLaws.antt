@@ -11,7 +11,6 @@ use lib.Bits.{bitAnd}
 use borrow.Author.Tests.{eq-eqb, ne-eqb, ltb-true}
 use Rattle.lists.proofs.InLaws.{in-getD}
 use Rattle.lists.proofs.Tests.{and-left, and-right, T→true}
-use Rattle.sheet_rules.specs.declared.Kind.{Kind}
 use Rattle.sheet_rules.specs.declared.Member.{Member}
 use Rattle.sheet_rules.specs.declared.Member.the-variants.{Method, Field}
 use Rattle.sheet_rules.specs.declared.FitAnswer.{FitAnswer}

@@ -1,7 +1,7 @@
 -- The verdict on a text: a law for each exit. Assumes nothing.
 use Prim.Native.Nat.{ℕ, _≤_, _<_}
 use native.Mathlib.Omega.{arith}
-use mathlib.Core.Path.{_≡_, refl, sym, ap, _∙_, subst}
+use mathlib.Core.Path.{_≡_, sym, ap, _∙_, subst}
 use mathlib.Core.Bool.{Bool, cond}
 use mathlib.Core.List.{List}
 use lib.ListN.{length}
@@ -9,13 +9,12 @@ use borrow.Author.Tests.{le-leb}
 use Rattle.sheet_rules.specs.declared.Reason.{Reason}
 use Rattle.sheet_rules.specs.declared.Reason.the-variants.{BufferTooShort}
 use Rattle.sheet_rules.specs.declared.Verdict.{Verdict}
-use Rattle.sheet_rules.specs.Sheet.{Sheet}
-use Rattle.sheet_rules.specs.Reading.{Meaning, readable, unreadable, meaning}
+use Rattle.sheet_rules.specs.Reading.{readable, unreadable, meaning}
 use Rattle.sheet_rules.specs.WellFormed.{WellFormed}
 use Rattle.type_rules.specs.Fit.{fits}
-use Rattle.type_rules.specs.Typing.{Fault, lineFaults, firstFormLine, firstFault, typing, verdictOn, verdict}
+use Rattle.type_rules.specs.Typing.{lineFaults, firstFormLine, firstFault, typing, verdictOn, verdict}
 use Rattle.type_rules.proofs.AgreeLaws.{faults-agree}
-use Rattle.table.specs.Layout.{rowCountAt, tableEnd, slotRowAddress, workSize}
+use Rattle.table.specs.Layout.{rowCountAt, workSize}
 use Rattle.table.specs.View.{cell, sheetIn}
 use Rattle.table.specs.Only.{Only}
 use Rattle.table.specs.Whole.{Whole}
@@ -29,7 +28,6 @@ use Rattle.fit.specs.Told.{tells, Comparable, FitFilled}
 use Rattle.fit.proofs.SheetLaws.{sheet-comparable, filled-sheet, sheet-tells}
 use Rattle.code_typing.proofs.CodeLaws.{slots-sheet}
 use Rattle.typing.specs.Told.{SheetJudged}
-use Rattle.clear.specs.Answer.{Answered}
 use Rattle.verdict.specs.Asked.{TextJudged}
 
 module _ (text w w₁ : List ℕ) (v : Verdict) (size : workSize ≤ length w) (s : SheetRead text w w₁ v) where
