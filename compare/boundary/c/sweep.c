@@ -16,6 +16,12 @@ static void add(uint32_t number) {
     sum = sum * 31 + number;
 }
 
+/* A result's fields, one after another, so that none is taken for another. */
+static void add_fields(size_t count, const uint32_t *fields) {
+    for (size_t i = 0; i < count; i++)
+        add(fields[i]);
+}
+
 static void *room(size_t bytes) {
     void *block = malloc(bytes > 0 ? bytes : 1);
     if (block == NULL)
@@ -40,17 +46,18 @@ static void ask(const uint8_t *text, size_t length, uint32_t budget) {
     uint16_t *held = room(LEXONDAR_AUTHORITY * sizeof *held);
     uint16_t *all = room(LEXONDAR_REPORT * sizeof *all);
     struct lexondar_fit_result fit = lexondar_fit(text, length, 1, 0, work, LEXONDAR_WORK);
-    add(fit.refusal + fit.line + fit.fits);
+    add_fields(3, (uint32_t[]){fit.refusal, fit.line, fit.fits});
     add_work(work);
     struct lexondar_run_result run = lexondar_run(text, length, budget, work, LEXONDAR_WORK);
-    add(run.outcome + run.steps + run.value + run.objects);
+    add_fields(6, (uint32_t[]){run.refusal, run.line, run.outcome, run.steps, run.value, run.objects});
     struct lexondar_authority_result one = lexondar_authority(
         text, length, budget, LEXONDAR_MAIN, work, LEXONDAR_WORK, held, LEXONDAR_AUTHORITY);
-    add(one.refusal + one.line);
+    add_fields(3, (uint32_t[]){one.refusal, one.line, one.count});
     add_result(held, one.count);
     struct lexondar_report_result every =
         lexondar_report(text, length, budget, work, LEXONDAR_WORK, all, LEXONDAR_REPORT);
-    add(every.steps + every.count);
+    add_fields(7, (uint32_t[]){every.refusal, every.line, every.outcome, every.steps, every.value,
+                               every.objects, every.count});
     add_result(all, every.count);
     add_work(work);
     free(work);
@@ -62,7 +69,7 @@ static void ask(const uint8_t *text, size_t length, uint32_t budget) {
 static void judge(const uint8_t *text, size_t length) {
     uint16_t *work = room(LEXONDAR_WORK * sizeof *work);
     struct lexondar_verdict_result verdict = lexondar_verdict(text, length, work, LEXONDAR_WORK);
-    add(verdict.refusal * 65536 + verdict.line);
+    add_fields(2, (uint32_t[]){verdict.refusal, verdict.line});
     add_work(work);
     free(work);
 }

@@ -48,33 +48,35 @@ fn stored(sheets: &[Vec<u8>]) -> PathBuf {
 struct Sum(u64);
 
 impl Sum {
-    fn add(&mut self, numbers: &[u32]) {
-        let number: u32 = numbers.iter().fold(0, |sum, n| sum.wrapping_add(*n));
+    fn add(&mut self, number: u32) {
         self.0 = self.0.wrapping_mul(31).wrapping_add(number.into());
     }
 
+    fn add_fields(&mut self, fields: &[u32]) {
+        fields.iter().for_each(|field| self.add(*field));
+    }
+
     fn add_result(&mut self, result: &[u16]) {
-        for number in result {
-            self.add(&[(*number).into()]);
-        }
+        result.iter().for_each(|number| self.add((*number).into()));
     }
 
     /// What `judge` and `ask` add, in their order.
     fn add_sheet(&mut self, text: &[u8]) {
         let (mut work, mut held, mut all) = (vec![7; WORK], vec![7; AUTHORITY], vec![7; REPORT]);
-        let given = verdict(text, &mut work);
-        self.add(&[given.refusal * 65_536, given.line]);
+        let g = verdict(text, &mut work);
+        self.add_fields(&[g.refusal, g.line]);
         for budget in [0, 300] {
-            let given = fit(text, 1, 0, &mut work);
-            self.add(&[given.refusal, given.line, given.fits]);
-            let given = run(text, budget, &mut work);
-            self.add(&[given.outcome, given.steps, given.value, given.objects]);
-            let given = authority(text, budget, 256, &mut work, &mut held);
-            self.add(&[given.refusal, given.line]);
-            self.add_result(&held[..given.count as usize]);
-            let given = report(text, budget, &mut work, &mut all);
-            self.add(&[given.steps, given.count]);
-            self.add_result(&all[..given.count as usize]);
+            let g = fit(text, 1, 0, &mut work);
+            self.add_fields(&[g.refusal, g.line, g.fits]);
+            let g = run(text, budget, &mut work);
+            self.add_fields(&[g.refusal, g.line, g.outcome, g.steps, g.value, g.objects]);
+            let g = authority(text, budget, 256, &mut work, &mut held);
+            self.add_fields(&[g.refusal, g.line, g.count]);
+            self.add_result(&held[..g.count as usize]);
+            let g = report(text, budget, &mut work, &mut all);
+            self.add_fields(&[g.refusal, g.line, g.outcome, g.steps, g.value]);
+            self.add_fields(&[g.objects, g.count]);
+            self.add_result(&all[..g.count as usize]);
         }
     }
 }
