@@ -28,13 +28,14 @@ use Rattle.machine_state.proofs.HeldLaws.{frame-same, below-same, objects-count
 use Rattle.machine_steps.specs.Running.{Running}
 use Rattle.machine_steps.proofs.FacingLaws.{frames-few, objects-few}
 use Rattle.marks.specs.Marked.{MarksOnly}
-use Rattle.authority.specs.Laid.{begun}
+use Rattle.lists.specs.PutAt.{begun, putAt}
+use Rattle.lists.proofs.PutAtLaws.{put-put}
 use Rattle.authority.specs.Reach.{AuthorityWritten}
-use Rattle.authority.specs.Every.{entryOf, entries, everySize, putAt, heldState, EntriesWritten, ifResource, EveryWritten}
+use Rattle.authority.specs.Every.{entryOf, entries, everySize, heldState, EntriesWritten, ifResource, EveryWritten}
 use Rattle.authority.proofs.BelowLaws.{marks-sheet, marks-objects, marks-stored}
 use Rattle.authority.proofs.ReachLaws.{run-stored}
 use Rattle.authority.proofs.WrittenLaws.{passing-few, passing-snoc}
-use Rattle.authority.proofs.PutLaws.{put-put, entry-put, entries-append, entries-one, entries-few}
+use Rattle.authority.proofs.PutLaws.{entry-put, entries-append, entries-one, entries-few}
 
 -- A RUN AFTER MARKING
 

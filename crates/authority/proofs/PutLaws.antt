@@ -1,33 +1,14 @@
--- Numbers put at a place of the result buffer, and entries one after another. Assumes nothing.
+-- An entry put at a place of the result buffer, and entries one after another. Assumes nothing.
 use Prim.Native.Nat.{ℕ, suc, _+_, _-_, _*_, _≤_, _<_}
 use native.Mathlib.Omega.{arith}
 use mathlib.Core.Path.{_≡_, refl, sym, ap, _∙_}
 use mathlib.Core.List.{List, [], _∷_, _++_, map, append-assoc, append-nil}
 use lib.ListN.{length, getD, set, take, drop, length-append, length-drop}
-use lib.Seq.{lt-length-set, length-take-le, take-all, take-suc, append-snoc, set-at, take-at, drop-at, drop-drop, drop-length}
+use lib.Seq.{lt-length-set, length-take-le, take-all, take-suc, append-snoc, set-at, drop-drop, drop-length}
 use borrow.Rule.Slice.PartMut.{putMid}
 use Rattle.authority_rules.specs.Report.{Holding}
-use Rattle.authority.specs.Laid.{begun}
-use Rattle.authority.specs.Every.{entryOf, entries, putAt}
-
--- one put after another is one put
-pub put-put : (at : ℕ) (xs ys result : List ℕ) (r : ℕ) → at ≤ length result → r ≡ at + length xs → putAt r ys (putAt at xs result) ≡ putAt at (xs ++ ys) result
-put-put at xs ys result r h e =
-    ap (putAt r ys) (sym (append-assoc (take at result) xs rest))
-    ∙ (λ i. take-at front rest r size i ++ begun ys (drop-at front rest r size i))
-    ∙ append-assoc (take at result) xs (ys ++ drop (length ys) rest)
-    ∙ ap (λ (z : List ℕ). take at result ++ z)
-    (sym (append-assoc xs ys (drop (length ys) rest))
-    ∙ ap (λ (z : List ℕ). (xs ++ ys) ++ z) (drop-drop (length ys) (length xs) (drop at result) ∙ ap (λ (m : ℕ). drop m (drop at result)) (sym (length-append xs ys))))
-  where
-    rest : List ℕ
-    rest = drop (length xs) (drop at result)
-
-    front : List ℕ
-    front = take at result ++ xs
-
-    size : length front ≡ r
-    size = length-append (take at result) xs ∙ ap (λ (n : ℕ). n + length xs) (length-take-le at result h) ∙ sym e
+use Rattle.lists.specs.PutAt.{begun, putAt}
+use Rattle.authority.specs.Every.{entryOf, entries}
 
 -- an entry whose numbers were written through the part after its head
 pub entry-put : (result a : List ℕ) (at h c : ℕ) → at + 2 ≤ length result

@@ -30,7 +30,8 @@ use Rattle.machine_steps.proofs.FacingLaws.{frames-few, objects-few, object-is}
 use Rattle.machine_steps.proofs.OwnLaws.{form-there}
 use Rattle.marks.specs.Marked.{MarksOnly, isMarked, MarksCleared, Added}
 use Rattle.marks.proofs.MarkLaws.{added-before}
-use Rattle.authority.specs.Laid.{Stored, Slots, FrameMarked, Below, BelowMarked, OwnSmall, isReached, begun, Written}
+use Rattle.lists.specs.PutAt.{begun}
+use Rattle.authority.specs.Laid.{Stored, Slots, FrameMarked, Below, BelowMarked, OwnSmall, isReached, Written}
 use Rattle.authority.specs.Reach.{ReachMarked, AuthorityWritten}
 use Rattle.authority.proofs.BelowLaws.{marks-sheet, marks-objects, marks-slots-in, marks-top, marks-stored, marks-slots}
 use Rattle.authority.proofs.WrittenLaws.{passing-same}

@@ -8,7 +8,8 @@ use mathlib.Core.List.{List, [], _∷_, _++_, append-nil}
 use lib.ListN.{length, getD, set, drop, length-append, length-drop}
 use lib.Seq.{drop-cons, set-at, append-snoc}
 use Rattle.authority_rules.specs.Authority.{addIf, passing}
-use Rattle.authority.specs.Laid.{begun, Kept, Written}
+use Rattle.lists.specs.PutAt.{begun}
+use Rattle.authority.specs.Laid.{Kept, Written}
 
 -- one number more, at the end
 pub passing-snoc : (test : ℕ → Bool) (i k : ℕ) → passing test i (suc k) ≡ passing test i k ++ addIf (test (i + k)) (i + k) []

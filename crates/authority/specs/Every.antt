@@ -3,7 +3,7 @@
 use Prim.Native.Nat.{ℕ, _+_}
 use mathlib.Core.Path.{_≡_}
 use mathlib.Core.List.{List, [], _∷_, _++_, map}
-use lib.ListN.{length, take, drop}
+use lib.ListN.{length}
 use Rattle.machine_rules.specs.declared.Tally.{Tally}
 use Rattle.machine_rules.specs.State.{State}
 use Rattle.authority_rules.specs.Authority.{isResource, addIf}
@@ -12,7 +12,7 @@ use Rattle.table.specs.View.{sheetIn}
 use Rattle.machine_state.specs.declared.Top.{Top}
 use Rattle.machine_state.specs.Held.{stateIn}
 use Rattle.marks.specs.Marked.{MarksOnly}
-use Rattle.authority.specs.Laid.{begun}
+use Rattle.lists.specs.PutAt.{putAt}
 
 -- a holder's entry: its number, how many it holds, and which
 abbrev pub entryOf : Holding → List ℕ
@@ -26,10 +26,6 @@ entries (x ∷ xs) = entryOf x ++ entries xs
 -- the numbers that entries can take: 257 holders with 256 resources each
 abbrev pub everySize : ℕ
 everySize = 66306
-
--- numbers put at a place; what stands elsewhere stays
-abbrev pub putAt : ℕ → List ℕ → List ℕ → List ℕ
-putAt at xs result = take at result ++ begun xs (drop at result)
 
 -- the state that the buffer holds, of its own sheet
 abbrev pub heldState : List ℕ → Top → Tally → State

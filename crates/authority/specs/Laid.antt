@@ -3,9 +3,10 @@
 use Prim.Native.Nat.{ℕ, suc, _≤_, _<_}
 use mathlib.Core.Path.{_≡_}
 use mathlib.Core.Bool.{Bool, cond, _&&_}
-use mathlib.Core.List.{List, _++_}
+use mathlib.Core.List.{List}
 use lib.Dec.{eqb}
-use lib.ListN.{length, set, drop}
+use lib.ListN.{length, set}
+use Rattle.lists.specs.PutAt.{begun}
 use Rattle.authority_rules.specs.Authority.{isResource, frameHolder, slotsIf, holderOf, slotsOf, passing}
 use Rattle.table.specs.Layout.{objectAddress}
 use Rattle.table.specs.View.{cell, sheetIn}
@@ -46,10 +47,6 @@ pub record OwnSmall (w : List ℕ) (o : ℕ) : Type 0 where
 -- b is marked and a resource object, among n objects
 abbrev pub isReached : List ℕ → ℕ → ℕ → Bool
 isReached w n b = isMarked w b && isResource (sheetIn w) (objectsIn (sheetIn w) w n) b
-
--- a result buffer that begins with some numbers; later places keep their content
-abbrev pub begun : List ℕ → List ℕ → List ℕ
-begun xs result = xs ++ drop (length xs) result
 
 -- b written after the numbers that a result buffer begins with, if a test says so; r tells how many there are then
 pub record Kept (test : Bool) (b count : ℕ) (result result′ : List ℕ) (r : ℕ) : Type 0 where

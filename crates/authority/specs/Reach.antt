@@ -9,7 +9,7 @@ use Rattle.table.specs.View.{sheetIn}
 use Rattle.machine_state.specs.declared.Top.{Top}
 use Rattle.machine_state.specs.Held.{stateIn}
 use Rattle.marks.specs.Marked.{MarksOnly, isMarked}
-use Rattle.authority.specs.Laid.{begun}
+use Rattle.lists.specs.PutAt.{begun}
 
 -- exactly what h can reach is marked, and nothing else is changed
 pub record ReachMarked (w : List ℕ) (t : Top) (k : Tally) (h : ℕ) (w′ : List ℕ) : Type 0 where

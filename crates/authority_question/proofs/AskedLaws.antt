@@ -18,7 +18,7 @@ use Rattle.table.proofs.ViewLaws.{only-trans}
 use Rattle.clear.specs.Cleared.{cleared}
 use Rattle.clear.proofs.ClearLaws.{cleared-same}
 use Rattle.verdict.specs.Asked.{TextJudged}
-use Rattle.authority.specs.Laid.{begun}
+use Rattle.lists.specs.PutAt.{begun}
 use Rattle.authority_question.specs.Asked.{Told, enough, AskedFor}
 
 -- the buffers

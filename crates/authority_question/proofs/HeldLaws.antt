@@ -18,7 +18,7 @@ use Rattle.table.proofs.ViewLaws.{only-trans, only-widen, sheetIn-same}
 use Rattle.verdict.specs.Asked.{TextJudged}
 use Rattle.machine.specs.declared.Halt.{Halt}
 use Rattle.machine.specs.Runs.{haltedState, SheetRun}
-use Rattle.authority.specs.Laid.{begun}
+use Rattle.lists.specs.PutAt.{begun}
 use Rattle.authority.specs.Reach.{AuthorityWritten}
 use Rattle.authority.proofs.EveryLaws.{authority-few}
 use Rattle.authority_question.specs.Asked.{heldReply, heldNumbers, HeldTold}

@@ -15,7 +15,7 @@ use Rattle.table.proofs.ViewLaws.{only-trans, only-widen}
 use Rattle.verdict.specs.Asked.{TextJudged}
 use Rattle.machine.specs.declared.Halt.{Halt}
 use Rattle.machine.specs.Runs.{haltedState, SheetRun}
-use Rattle.authority.specs.Laid.{begun}
+use Rattle.lists.specs.PutAt.{begun}
 use Rattle.authority.specs.Every.{entries, EveryWritten}
 use Rattle.authority.proofs.EveryLaws.{every-few}
 use Rattle.authority_question.specs.Asked.{reportReply, reportNumbers, ReportTold}

@@ -14,7 +14,7 @@ use Rattle.authority_rules.specs.Report.{Report, reported, notReported, report}
 use Rattle.table.specs.Layout.{workSize}
 use Rattle.table.specs.Only.{Only}
 use Rattle.clear.specs.Cleared.{cleared}
-use Rattle.authority.specs.Laid.{begun}
+use Rattle.lists.specs.PutAt.{begun}
 use Rattle.authority.specs.Every.{entries, everySize}
 
 -- an answer before the work buffer is cleared: the reply, and its numbers at the start of the result buffer

@@ -2,3 +2,4 @@ pub mod Tests
 pub mod InLaws
 pub mod PairwiseLaws
 pub mod TabLaws
+pub mod PutAtLaws

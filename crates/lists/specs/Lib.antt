@@ -1,3 +1,4 @@
 pub mod In
 pub mod Pairwise
 pub mod Tab
+pub mod PutAt

@@ -6,12 +6,13 @@ use mathlib.Core.List.{List, [], _∷_, _++_, append-assoc, append-nil}
 use lib.ListN.{length, getD, take, drop, length-append}
 use lib.Seq.{getD-append-add, drop-append-add, take-append-seam}
 use Rattle.authority_rules.specs.Report.{Holding}
-use Rattle.authority.specs.Laid.{begun}
+use Rattle.lists.specs.PutAt.{begun}
 use Rattle.authority.specs.Every.{entryOf, entries}
 use Rattle.authority.proofs.PutLaws.{entries-append, entries-one}
 use Rattle.authority_rules.specs.Printed.{holderLine, holderLines}
-use Rattle.printer.specs.Put.{Put, entryCount, entryAt}
-use Rattle.printer.proofs.PutLaws.{put-none, put-size, put-then}
+use Rattle.line_writer.specs.Put.{Put}
+use Rattle.printer.specs.Printed.{entryCount, entryAt}
+use Rattle.line_writer.proofs.PutLaws.{put-none, put-size, put-then}
 
 -- an entry's numbers, where the entries before it end
 module _ (numbers done tail : List ℕ) (x : Holding) (e : numbers ≡ done ++ (entryOf x ++ tail)) where

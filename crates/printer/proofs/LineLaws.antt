@@ -9,8 +9,9 @@ use Rattle.sheet_rules.specs.Keys.{bytes}
 use Rattle.machine_rules.specs.Steps.{outcomeNumber}
 use Rattle.machine_rules.specs.declared.RunAnswer.{RunAnswer}
 use Rattle.authority_rules.specs.Printed.{decimal, further, lineText, verdictWord, lineWord, outcomeWord, stepsWord, valueWord, holderWord, verdictLines, runLines, holderLine}
-use Rattle.printer.specs.Put.{Put, entryCount, entryAt}
-use Rattle.printer.proofs.PutLaws.{put-size, put-then, line-put}
+use Rattle.line_writer.specs.Put.{Put}
+use Rattle.printer.specs.Printed.{entryCount, entryAt}
+use Rattle.line_writer.proofs.PutLaws.{put-size, put-then, line-put}
 
 -- the first two lines
 pub verdict-put : (refusal n : ℕ) (out out₁ out₂ : List ℕ) (a r : ℕ) → 35 ≤ length out

@@ -10,12 +10,13 @@ use Rattle.machine_rules.specs.declared.RunAnswer.{RunAnswer}
 use Rattle.authority_rules.specs.declared.ReportReply.{ReportReply}
 use Rattle.authority_rules.specs.Report.{Holding, Report, reported, notReported, report}
 use Rattle.table.specs.Layout.{workSize}
-use Rattle.authority.specs.Laid.{begun}
+use Rattle.lists.specs.PutAt.{begun}
 use Rattle.authority.specs.Every.{entries, everySize}
 use Rattle.authority_question.specs.Asked.{AskedFor, reportReply, reportNumbers}
 use Rattle.authority_rules.specs.Printed.{verdictLines, runLines, holderLine, holderLines, printed}
-use Rattle.printer.specs.Put.{Put, printSize, entryCount, entryAt, ReportPrinted}
-use Rattle.printer.proofs.PutLaws.{put-size, put-then}
+use Rattle.line_writer.specs.Put.{Put}
+use Rattle.printer.specs.Printed.{printSize, entryCount, entryAt, ReportPrinted}
+use Rattle.line_writer.proofs.PutLaws.{put-size, put-then}
 use Rattle.printer.proofs.ReportLaws.{reply-is, numbers-are, work-is, holdingsIn, reported-is, refused-is, holdings-fit}
 use Rattle.printer.proofs.HoldersLaws.{Printing, printing-size, from-end, printing-end, entry-within, entry-inside, line-inside, entry-less, printing-next}
 

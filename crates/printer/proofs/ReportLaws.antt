@@ -22,7 +22,7 @@ use Rattle.authority_rules.specs.Authority.{isResource, holds, authority}
 use Rattle.authority_rules.specs.Report.{Holding, holdingOf, holders, holdings, Report, reported, notReported, reportOf, report}
 use Rattle.table.specs.Layout.{workSize}
 use Rattle.clear.specs.Cleared.{cleared}
-use Rattle.authority.specs.Laid.{begun}
+use Rattle.lists.specs.PutAt.{begun}
 use Rattle.authority.specs.Every.{entries, everySize}
 use Rattle.authority.proofs.WrittenLaws.{passing-few}
 use Rattle.authority.proofs.PutLaws.{entries-few}

@@ -4,14 +4,15 @@ ghost use lib.ListN.{length};
 ghost use Rattle.table.specs.Layout.{workSize};
 ghost use Rattle.authority.specs.Every.{everySize};
 ghost use Rattle.authority_rules.specs.Printed.{verdictLines, runLines};
-ghost use Rattle.printer.specs.Put.{Put, printSize, ReportPrinted};
+ghost use Rattle.line_writer.specs.Put.{Put};
+ghost use Rattle.printer.specs.Printed.{printSize, ReportPrinted};
 use crate::put_holder;
-use crate::put_line;
 use authority_question::report::ask_report;
 use authority_rules::ReportReply;
-use lexondar::number_of;
-use lexondar::outcome_number;
+use line_writer::put_line;
 use machine_rules::RunAnswer;
+use results::number_of;
+use results::outcome_number;
 use table::rows::wide;
 
 // Puts the refusal's number and its line, 0 and 0 of an accepted sheet; answers the place after them.

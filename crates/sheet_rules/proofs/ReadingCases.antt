@@ -86,6 +86,7 @@ cases =
     ∷ gives (P-with 11 "copy=2") 7 11
     ∷ gives (P-with 15 "call=3,1,1") 7 15
     ∷ gives (P-with 20 "call=4,2,0") 7 20
+    ∷ gives (P-with 20 "call=2,2,3") 7 20
     ∷ gives (P-with 17 "copy=0") 7 17
     -- the first line at fault ends the reading, and on a line the lower number wins
     ∷ gives (textOf (withLine 4 "def=1,1,0" (withLine 20 "call=2,2" P))) 7 4

@@ -2,14 +2,14 @@ use Rattle.sheet_rules.specs.declared.Reason.the-variants.{BufferTooShort}
 use Rattle.type_rules.specs.declared.FitReply.{FitReply}
 use Rattle.type_rules.specs.FitQuestion.{fitReply}
 use Rattle.clear.proofs.AnswerLaws.{asked-as}
-use Rattle.lexondar.specs.Boundary.{fitResult}
+use Rattle.results.specs.Results.{fitResult}
 use borrow.Author.Needs.{needs}
 use Rattle.lexondar.proofs.lexondar_fit.Statement.{statement}
 use Rattle.lexondar.proofs.lexondar_fit.Tie as tie
 use Rattle.lexondar.proofs.lexondar_fit.Reads as reads
 use Rattle.lexondar.proofs.lexondar_fit.Lts as lts
 use Rattle.fit_question.proofs.ask_fit.Reads as ask-fit-reads
-use Rattle.lexondar.proofs.fit_result.Reads as fit-result-reads
+use Rattle.results.proofs.fit_result.Reads as fit-result-reads
 
 -- src/lib.rt:77:16
 ask-fit-requires : tie.Need-ask-fit-requires

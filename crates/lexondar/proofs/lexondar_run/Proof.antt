@@ -2,13 +2,13 @@ use Rattle.sheet_rules.specs.declared.Reason.the-variants.{BufferTooShort}
 use Rattle.machine_rules.specs.declared.RunReply.{RunReply}
 use Rattle.machine_rules.specs.Steps.{runReply}
 use Rattle.clear.proofs.AnswerLaws.{asked-as}
-use Rattle.lexondar.specs.Boundary.{runResult}
+use Rattle.results.specs.Results.{runResult}
 use borrow.Author.Needs.{needs}
 use Rattle.lexondar.proofs.lexondar_run.Statement.{statement}
 use Rattle.lexondar.proofs.lexondar_run.Tie as tie
 use Rattle.lexondar.proofs.lexondar_run.Reads as reads
 use Rattle.lexondar.proofs.lexondar_run.Lts as lts
-use Rattle.lexondar.proofs.run_result.Reads as run-result-reads
+use Rattle.results.proofs.run_result.Reads as run-result-reads
 use Rattle.run_question.proofs.ask_run.Reads as ask-run-reads
 
 -- src/lib.rt:163:16

@@ -2,13 +2,13 @@ use Rattle.sheet_rules.specs.declared.Reason.the-variants.{BufferTooShort}
 use Rattle.sheet_rules.specs.declared.Verdict.{Verdict}
 use Rattle.type_rules.specs.Typing.{verdict}
 use Rattle.clear.proofs.AnswerLaws.{asked-as}
-use Rattle.lexondar.specs.Boundary.{verdictResult}
+use Rattle.results.specs.Results.{verdictResult}
 use borrow.Author.Needs.{needs}
 use Rattle.lexondar.proofs.lexondar_verdict.Statement.{statement}
 use Rattle.lexondar.proofs.lexondar_verdict.Tie as tie
 use Rattle.lexondar.proofs.lexondar_verdict.Reads as reads
 use Rattle.lexondar.proofs.lexondar_verdict.Lts as lts
-use Rattle.lexondar.proofs.verdict_result.Reads as verdict-result-reads
+use Rattle.results.proofs.verdict_result.Reads as verdict-result-reads
 use Rattle.verdict.proofs.ask_verdict.Reads as ask-verdict-reads
 
 -- src/lib.rt:101:20

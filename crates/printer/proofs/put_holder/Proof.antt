@@ -6,11 +6,11 @@ use Rattle.printer.proofs.put_holder.Statement.{statement}
 use Rattle.printer.proofs.put_holder.Tie as tie
 use Rattle.printer.proofs.put_holder.Reads as reads
 use Rattle.printer.proofs.put_holder.Lts as lts
-use Rattle.printer.proofs.put_byte.Reads as put-byte-reads
-use Rattle.printer.proofs.put_decimal.Reads as put-decimal-reads
-use Rattle.printer.proofs.put_numbers.Reads as put-numbers-reads
-use Rattle.printer.proofs.put_word.Reads as put-word-reads
-use Rattle.printer.proofs.wide.Reads as wide-reads
+use Rattle.line_writer.proofs.put_byte.Reads as put-byte-reads
+use Rattle.line_writer.proofs.put_decimal.Reads as put-decimal-reads
+use Rattle.line_writer.proofs.put_numbers.Reads as put-numbers-reads
+use Rattle.line_writer.proofs.put_word.Reads as put-word-reads
+use Rattle.line_writer.proofs.wide.Reads as wide-reads
 use Rattle.table.proofs.rows.wide.Reads as rows-wide-reads
 
 -- src/lib.rt:83:39

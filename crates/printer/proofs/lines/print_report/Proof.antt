@@ -4,7 +4,7 @@ use borrow.Author.Needs.{needs}
 use Rattle.sheet_rules.specs.declared.Reason.the-variants.{BufferTooShort}
 use Rattle.authority_rules.specs.declared.ReportReply.{ReportReply}
 use Rattle.authority_rules.specs.Report.{report}
-use Rattle.printer.proofs.PutLaws.{put-size}
+use Rattle.line_writer.proofs.PutLaws.{put-size}
 use Rattle.printer.proofs.ReportLaws.{holdingsIn}
 use Rattle.printer.proofs.HoldersLaws.{Printing, printing-start}
 use Rattle.printer.proofs.PrintedLaws.{refusal-printed, run-room, report-size, report-end, holder-asks, entry-fits, holder-less, holder-next}
@@ -13,7 +13,7 @@ use Rattle.printer.proofs.lines.print_report.Tie as tie
 use Rattle.printer.proofs.lines.print_report.Reads as reads
 use Rattle.printer.proofs.lines.print_report.Lts as lts
 use Rattle.authority_question.proofs.report.ask_report.Reads as ask-report-reads
-use Rattle.lexondar.proofs.number_of.Reads as number-of-reads
+use Rattle.results.proofs.number_of.Reads as number-of-reads
 use Rattle.printer.proofs.lines.put_run.Reads as put-run-reads
 use Rattle.printer.proofs.lines.put_verdict.Reads as put-verdict-reads
 use Rattle.printer.proofs.put_holder.Reads as put-holder-reads

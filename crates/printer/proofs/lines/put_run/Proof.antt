@@ -6,8 +6,8 @@ use Rattle.printer.proofs.lines.put_run.Statement.{statement}
 use Rattle.printer.proofs.lines.put_run.Tie as tie
 use Rattle.printer.proofs.lines.put_run.Reads as reads
 use Rattle.printer.proofs.lines.put_run.Lts as lts
-use Rattle.lexondar.proofs.outcome_number.Reads as outcome-number-reads
-use Rattle.printer.proofs.put_line.Reads as put-line-reads
+use Rattle.results.proofs.outcome_number.Reads as outcome-number-reads
+use Rattle.line_writer.proofs.put_line.Reads as put-line-reads
 
 -- src/lines.rt:32:31
 slice-aggregate-put-line : tie.Need-slice-aggregate-put-line

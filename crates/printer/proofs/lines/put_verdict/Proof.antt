@@ -6,7 +6,7 @@ use Rattle.printer.proofs.lines.put_verdict.Statement.{statement}
 use Rattle.printer.proofs.lines.put_verdict.Tie as tie
 use Rattle.printer.proofs.lines.put_verdict.Reads as reads
 use Rattle.printer.proofs.lines.put_verdict.Lts as lts
-use Rattle.printer.proofs.put_line.Reads as put-line-reads
+use Rattle.line_writer.proofs.put_line.Reads as put-line-reads
 
 -- src/lines.rt:22:30
 slice-aggregate-put-line : tie.Need-slice-aggregate-put-line

@@ -1,0 +1,114 @@
+//! The reading pass and the fit question against the second program.
+
+use crate::common::{is_left_clean, noise};
+use boundary::{fit, FitResult, WORK};
+use second::Refusal;
+
+fn wanted(answer: Result<bool, Refusal>) -> FitResult {
+    match answer {
+        Ok(fits) => FitResult {
+            refusal: 0,
+            line: 0,
+            fits: fits.into(),
+        },
+        Err(refusal) => FitResult {
+            refusal: refusal.number(),
+            line: refusal.line,
+            fits: 0,
+        },
+    }
+}
+
+/// Asks, compares, and looks at every number of the buffer afterwards.
+fn compare(text: &[u8], a: u32, b: u32, entry: &[u16], name: &str) -> FitResult {
+    let mut work = entry.to_vec();
+    let answer = fit(text, a as usize, b as usize, &mut work);
+    assert_eq!(answer, wanted(second::fit(text, a, b)), "{name}");
+    is_left_clean(&work, entry, name);
+    answer
+}
+
+#[test]
+fn reading_agrees_on_20000_sheets() {
+    let mut seen = [0_u32; 12];
+    for index in 0..20_000 {
+        let text = generator::sheet(31, index);
+        let entry = noise(index + 1, WORK + (index as usize % 3) * 7);
+        let answer = compare(&text, 0, 0, &entry, &format!("sheet {index}"));
+        seen[answer.refusal as usize] += 1;
+    }
+    for number in [0, 2, 3, 4, 5, 6, 7] {
+        assert!(seen[number] > 0, "{number} was never the answer");
+    }
+}
+
+#[test]
+fn all_pairs_of_rows_agree_on_300_sheets() {
+    let (mut sheets, mut yes, mut no) = (0, 0, 0);
+    for index in 0.. {
+        let text = generator::sheet(32, index);
+        let Ok(sheet) = second::read(&text) else {
+            continue;
+        };
+        let rows = sheet.rows.len() as u16;
+        let table = second::fit::FitTable::of(&sheet.rows);
+        let mut work = noise(index + 1, WORK);
+        for a in 0..rows {
+            for b in 0..rows {
+                let answer = fit(&text, a.into(), b.into(), &mut work);
+                let name = format!("sheet {index}, rows {a} and {b}");
+                assert_eq!(answer, wanted(Ok(table.fits(a, b))), "{name}");
+                match answer.fits {
+                    0 => no += 1,
+                    _ => yes += 1,
+                }
+            }
+        }
+        sheets += 1;
+        if sheets == 300 {
+            break;
+        }
+    }
+    assert!(yes > 1_000 && no > 1_000, "{yes} yes and {no} no");
+}
+
+#[test]
+fn a_row_that_is_not_there_is_refused_at_line_0() {
+    let text = b"types=1\ntype=0,0\nforms=1\nform=0,0\nmain=1\nnew=0\n";
+    for (a, b) in [(0, 0), (1, 0), (0, 1), (64, 0), (0, 65_536), (u32::MAX, 0)] {
+        compare(text, a, b, &noise(7, WORK), &format!("rows {a} and {b}"));
+    }
+    let mut work = noise(8, WORK);
+    let loose = FitResult {
+        refusal: 7,
+        line: 0,
+        fits: 0,
+    };
+    assert_eq!(fit(text, usize::MAX, 0, &mut work), loose);
+}
+
+#[test]
+fn a_short_buffer_is_refused_first_and_left_as_it_was() {
+    let long = vec![b'x'; 70_000];
+    for length in [0, 1, 4_096, WORK - 1] {
+        for text in [&b""[..], &long[..]] {
+            let entry = noise(9, length);
+            let mut work = entry.clone();
+            let short = FitResult {
+                refusal: 1,
+                line: 0,
+                fits: 0,
+            };
+            assert_eq!(fit(text, 0, 0, &mut work), short);
+            assert_eq!(work, entry);
+        }
+    }
+}
+
+#[test]
+fn a_text_at_the_limit_is_read_and_one_over_it_is_not() {
+    for length in [65_534, 65_535, 65_536, 70_000] {
+        let text = vec![b'\n'; length];
+        compare(&text, 0, 0, &noise(10, WORK), &format!("{length} bytes"));
+    }
+}

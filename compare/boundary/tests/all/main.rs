@@ -1,0 +1,15 @@
+//! The proved library, the header and the program against the second program.
+
+mod authority;
+mod authority_edges;
+mod common;
+mod fit;
+mod linked;
+mod memory;
+mod printed;
+mod program;
+mod questions;
+mod report;
+mod run;
+mod run_edges;
+mod verdict;

@@ -1,0 +1,95 @@
+//! The small program over the library, on sheets of the paper.
+
+use crate::common::CLERK;
+use std::io::Write;
+use std::process::{Command, Stdio};
+
+fn run(words: &[&str], sheet: &[u8]) -> String {
+    let mut child = Command::new(env!("CARGO_BIN_EXE_boundary"))
+        .args(words)
+        .stdin(Stdio::piped())
+        .stdout(Stdio::piped())
+        .spawn()
+        .expect("the program starts");
+    let mut input = child.stdin.take().expect("standard input");
+    input.write_all(sheet).expect("the sheet is taken");
+    drop(input);
+    let output = child.wait_with_output().expect("the program ends");
+    String::from_utf8(output.stdout).expect("plain text")
+}
+
+/// The paper's six rows: 2 fits 3, 3 not 2; 0 fits 1, 1 not 0; 4 and 5 fit
+/// neither way.
+const ROWS: &[u8] = b"types=6\ntype=0,0\ntype=1,0\ntype=0,1\ndef=1,1,0\ntype=1,1\ndef=1,0,1\n\
+                      type=1,1\nvar=1,0\ntype=1,1\nvar=1,1\n\
+                      forms=1\nform=0,0\nmain=1\nnew=0\n";
+
+#[test]
+fn the_clerk_is_accepted() {
+    assert_eq!(run(&["verdict"], CLERK), "verdict=0\nline=0\n");
+}
+
+#[test]
+fn a_sheet_without_its_last_byte_is_refused_at_its_last_line() {
+    let short = &CLERK[..CLERK.len() - 1];
+    assert_eq!(run(&["verdict"], short), "verdict=3\nline=20\n");
+    assert_eq!(run(&["fit", "0", "0"], short), "verdict=3\nline=20\n");
+    assert_eq!(run(&["run", "8"], short), "verdict=3\nline=20\n");
+    assert_eq!(run(&["verdict"], b""), "verdict=3\nline=1\n");
+}
+
+#[test]
+fn the_paper_s_rows_fit_as_it_says() {
+    let cases = [
+        ("2", "3", 1),
+        ("3", "2", 0),
+        ("0", "1", 1),
+        ("1", "0", 0),
+        ("4", "5", 0),
+        ("5", "4", 0),
+    ];
+    for (a, b, fits) in cases {
+        let answer = run(&["fit", a, b], ROWS);
+        assert_eq!(answer, format!("fit={fits}\n"), "{a} and {b}");
+    }
+    assert_eq!(run(&["fit", "6", "0"], ROWS), "verdict=7\nline=0\n");
+}
+
+#[test]
+fn the_clerk_runs_for_its_budget() {
+    let done = "outcome=0\nsteps=8\nvalue=0\nobjects=3\n";
+    assert_eq!(run(&["run", "8"], CLERK), done);
+    assert_eq!(run(&["run", "4294967295"], CLERK), done);
+    let spent = "outcome=1\nsteps=7\nvalue=65535\nobjects=3\n";
+    assert_eq!(run(&["run", "7"], CLERK), spent);
+}
+
+#[test]
+fn a_budget_of_more_than_32_bits_is_not_taken() {
+    for budget in ["4294967296", "-1", "many"] {
+        assert_eq!(run(&["run", budget], CLERK), "", "{budget}");
+    }
+}
+
+#[test]
+fn the_clerk_s_holders() {
+    let cases = [
+        ("8", "256", "holder=256,1,2\n"),
+        ("8", "1", "holder=1,1\n"),
+        ("8", "2", "holder=2,1,2\n"),
+        ("0", "256", "holder=256\n"),
+        ("2", "2", "verdict=11\nline=0\n"),
+        ("8", "0", "verdict=11\nline=0\n"),
+        ("8", "257", "verdict=11\nline=0\n"),
+    ];
+    for (budget, holder, lines) in cases {
+        let answer = run(&["authority", budget, holder], CLERK);
+        assert_eq!(answer, lines, "budget {budget}, holder {holder}");
+    }
+    let short = &CLERK[..CLERK.len() - 1];
+    assert_eq!(
+        run(&["authority", "8", "256"], short),
+        "verdict=3\nline=20\n"
+    );
+    assert_eq!(run(&["authority", "8", "-1"], CLERK), "");
+}

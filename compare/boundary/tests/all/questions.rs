@@ -1,0 +1,228 @@
+//! All five questions against the second program on the same sheets, with
+//! buffers that are one number too short, exactly as long as asked, or longer.
+
+use crate::common::{budget_for, draw, is_left_clean, is_written, noise};
+use boundary::{
+    authority, entries, fit, report, run, verdict, AuthorityResult, FitResult, ReportResult,
+    RunResult, VerdictResult, AUTHORITY, REPORT, WORK,
+};
+use second::machine::Machine;
+use second::Refusal;
+use std::fmt::Debug;
+
+/// A sheet, what decides the buffers and numbers, and numbers for buffers.
+struct Case<'a> {
+    text: &'a [u8],
+    seed: u64,
+    noise: &'a [u16],
+}
+
+/// Which lengths were met: too short, exact, longer.
+type Lengths = [u32; 3];
+
+impl Case<'_> {
+    /// A buffer at entry: of eight one is too short, and four are exact.
+    fn entry(&self, asked: usize, salt: u64, seen: &mut Lengths) -> Vec<u16> {
+        let drawn = draw(self.seed ^ (salt << 32)) as usize;
+        let (kind, length) = match drawn % 8 {
+            _ if asked == 0 => (1, 0),
+            0 => (0, asked - 1),
+            1..=4 => (1, asked),
+            _ => (2, asked + 1 + (drawn >> 8) % 50),
+        };
+        seen[kind] += 1;
+        let from = (drawn >> 16) % 64;
+        self.noise[from..from + length].to_vec()
+    }
+
+    /// Asks, compares, and looks at every number of both buffers afterwards.
+    fn ask<R: PartialEq + Debug>(
+        &self,
+        (salt, size): (u64, usize),
+        (wanted, written): (R, &[u16]),
+        short: R,
+        seen: &mut Lengths,
+        call: impl Fn(&mut [u16], &mut [u16]) -> R,
+    ) {
+        let work_entry = self.entry(WORK, salt, seen);
+        let result_entry = self.entry(size, salt + 1, seen);
+        let (mut work, mut result) = (work_entry.clone(), result_entry.clone());
+        let answer = call(&mut work, &mut result);
+        let name = format!("sheet {}, question {salt}", self.seed);
+        if work_entry.len() < WORK || result_entry.len() < size {
+            assert_eq!(answer, short, "{name}");
+            assert!(work == work_entry && result == result_entry, "{name}");
+            return;
+        }
+        assert_eq!(answer, wanted, "{name}");
+        is_written(&result, &result_entry, written, &name);
+        is_left_clean(&work, &work_entry, &name);
+    }
+
+    fn ask_fit(&self, seen: &mut Lengths) {
+        let row = |salt: u64| match draw(self.seed ^ salt) % 40 {
+            0 => u32::MAX,
+            drawn => (drawn % 12) as u32,
+        };
+        let (a, b) = (row(101), row(102));
+        let of = |refusal, line, fits| FitResult {
+            refusal,
+            line,
+            fits,
+        };
+        let wanted = match second::fit(self.text, a, b) {
+            Ok(fits) => of(0, 0, fits.into()),
+            Err(refusal) => of(refusal.number(), refusal.line, 0),
+        };
+        self.ask((10, 0), (wanted, &[]), of(1, 0, 0), seen, |work, _| {
+            fit(self.text, a as usize, b as usize, work)
+        });
+    }
+
+    fn ask_verdict(&self, seen: &mut Lengths) {
+        let of = |refusal, line| VerdictResult { refusal, line };
+        let wanted = match second::verdict(self.text) {
+            Ok(()) => of(0, 0),
+            Err(refusal) => of(refusal.number(), refusal.line),
+        };
+        self.ask((20, 0), (wanted, &[]), of(1, 0), seen, |work, _| {
+            verdict(self.text, work)
+        });
+    }
+
+    /// Run, authority and report of a text that is refused.
+    fn ask_refused(&self, refusal: Refusal, seen: &mut Lengths) {
+        let budget = draw(!self.seed) as u32;
+        let (number, line) = (refusal.number(), refusal.line);
+        let text = self.text;
+        let wanted = (run_of(number, line), &[][..]);
+        self.ask((30, 0), wanted, run_of(1, 0), seen, |work, _| {
+            run(text, budget, work)
+        });
+        let wanted = (held_of(number, line), &[][..]);
+        let asked = (40, AUTHORITY);
+        self.ask(asked, wanted, held_of(1, 0), seen, |work, result| {
+            authority(text, budget, 256, work, result)
+        });
+        let wanted = (report_of(number, line), &[][..]);
+        let asked = (50, REPORT);
+        self.ask(asked, wanted, report_of(1, 0), seen, |work, result| {
+            report(text, budget, work, result)
+        });
+    }
+
+    /// The same three of an accepted sheet.
+    fn ask_accepted(&self, seen: &mut Lengths) {
+        let text = self.text;
+        let sheet = second::read(text).expect("an accepted sheet");
+        let budget = budget_for(&sheet, self.seed);
+        let mut machine = Machine::start(&sheet);
+        let ran = machine.run(budget);
+        let wanted = RunResult {
+            outcome: ran.outcome as u32,
+            steps: ran.steps,
+            value: ran.value.into(),
+            objects: ran.objects.into(),
+            ..run_of(0, 0)
+        };
+        self.ask((30, 0), (wanted, &[]), run_of(1, 0), seen, |work, _| {
+            run(text, budget, work)
+        });
+        self.ask_holder(budget, seen);
+        let numbers = entries(&machine);
+        let wanted = ReportResult {
+            outcome: wanted.outcome,
+            steps: wanted.steps,
+            value: wanted.value,
+            objects: wanted.objects,
+            count: numbers.len() as u32,
+            ..report_of(0, 0)
+        };
+        let (asked, short) = ((50, REPORT), report_of(1, 0));
+        self.ask(asked, (wanted, &numbers), short, seen, |work, result| {
+            report(text, budget, work, result)
+        });
+    }
+
+    /// The authority of some number, which may be no holder.
+    fn ask_holder(&self, budget: u32, seen: &mut Lengths) {
+        let holder = (draw(self.seed ^ 103) % 261) as u32;
+        let held = second::authority(self.text, budget, holder);
+        let numbers = held.clone().unwrap_or_default();
+        let wanted = AuthorityResult {
+            refusal: held.as_ref().err().map_or(0, |refusal| refusal.number()),
+            line: 0,
+            count: numbers.len() as u32,
+        };
+        let (asked, short) = ((40, AUTHORITY), held_of(1, 0));
+        self.ask(asked, (wanted, &numbers), short, seen, |work, result| {
+            authority(self.text, budget, holder as usize, work, result)
+        });
+    }
+}
+
+fn run_of(refusal: u32, line: u32) -> RunResult {
+    RunResult {
+        refusal,
+        line,
+        outcome: 0,
+        steps: 0,
+        value: 0,
+        objects: 0,
+    }
+}
+
+fn held_of(refusal: u32, line: u32) -> AuthorityResult {
+    AuthorityResult {
+        refusal,
+        line,
+        count: 0,
+    }
+}
+
+fn report_of(refusal: u32, line: u32) -> ReportResult {
+    ReportResult {
+        refusal,
+        line,
+        outcome: 0,
+        steps: 0,
+        value: 0,
+        objects: 0,
+        count: 0,
+    }
+}
+
+/// Every second sheet from one on; how many were accepted, and the lengths.
+fn compare_half(first: u64, count: u64, noise: &[u16]) -> (u32, Lengths) {
+    let (mut accepted, mut seen) = (0, [0; 3]);
+    for seed in (first..count).step_by(2) {
+        let text = generator::sheet(91, seed);
+        let text = &text[..];
+        let case = Case { text, seed, noise };
+        case.ask_fit(&mut seen);
+        case.ask_verdict(&mut seen);
+        match second::verdict(text) {
+            Ok(()) => {
+                accepted += 1;
+                case.ask_accepted(&mut seen);
+            }
+            Err(refusal) => case.ask_refused(refusal, &mut seen),
+        }
+    }
+    (accepted, seen)
+}
+
+#[test]
+fn every_question_agrees_on_50000_sheets() {
+    let numbers = noise(97, REPORT + 200);
+    let (even, odd) = std::thread::scope(|scope| {
+        let odd = scope.spawn(|| compare_half(1, 50_000, &numbers));
+        let even = compare_half(0, 50_000, &numbers);
+        (even, odd.join().expect("the odd ones agree"))
+    });
+    let accepted = even.0 + odd.0;
+    assert!(accepted > 15_000, "{accepted} accepted");
+    for (kind, (a, b)) in even.1.iter().zip(odd.1).enumerate() {
+        assert!(a + b > 30_000, "length {kind} met {} times", a + b);
+    }
+}

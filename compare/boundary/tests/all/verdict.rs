@@ -1,0 +1,87 @@
+//! The typing verdict against the second program.
+
+use crate::common::{is_left_clean, noise};
+use boundary::{verdict, VerdictResult, WORK};
+
+fn wanted(text: &[u8]) -> VerdictResult {
+    match second::verdict(text) {
+        Ok(()) => VerdictResult {
+            refusal: 0,
+            line: 0,
+        },
+        Err(refusal) => VerdictResult {
+            refusal: refusal.number(),
+            line: refusal.line,
+        },
+    }
+}
+
+/// Asks, compares, and looks at every number of the buffer afterwards.
+fn compare(text: &[u8], entry: &[u16], name: &str) -> VerdictResult {
+    let mut work = entry.to_vec();
+    let answer = verdict(text, &mut work);
+    assert_eq!(answer, wanted(text), "{name}");
+    is_left_clean(&work, entry, name);
+    answer
+}
+
+#[test]
+fn the_verdict_agrees_on_20000_sheets() {
+    let mut seen = [0_u32; 12];
+    for index in 0..20_000 {
+        let text = generator::sheet(41, index);
+        let entry = noise(index + 1, WORK + (index as usize % 3) * 7);
+        let answer = compare(&text, &entry, &format!("sheet {index}"));
+        seen[answer.refusal as usize] += 1;
+    }
+    for number in [0, 2, 3, 4, 5, 6, 7, 8, 9, 10] {
+        assert!(seen[number] > 0, "{number} was never the answer");
+    }
+}
+
+/// Document 01's sheet P, with one line changed.
+fn p_with(number: usize, line: &str) -> Vec<u8> {
+    let p = "types=3 type=0,0 type=1,1 def=1,0,0 type=1,1 def=2,0,0 forms=3 form=0,0 form=1,0 body=1 copy=1 \
+             form=2,1 keep=1 body=1 call=2,1,1 main=4 new=0 new=1 new=2,1 call=2,2,0";
+    let mut lines: Vec<&str> = p.split_whitespace().collect();
+    lines[number - 1] = line;
+    lines
+        .iter()
+        .flat_map(|l| l.bytes().chain([b'\n']))
+        .collect()
+}
+
+#[test]
+fn the_paper_s_cases_have_their_numbers_and_lines() {
+    let cases = [
+        (1, "types=3", 0, 0),
+        (6, "def=1,0,0", 6, 6),
+        (19, "new=2,0", 10, 19),
+        (5, "type=0,1", 8, 13),
+        (20, "call=2,3,0", 9, 20),
+        (20, "call=4,2,0", 7, 20),
+        (1, "types=0", 4, 1),
+        (1, "types=65", 4, 1),
+        (1, "types=03", 3, 1),
+    ];
+    for (number, line, refusal, at) in cases {
+        let text = p_with(number, line);
+        let name = format!("line {number} as {line}");
+        let answer = compare(&text, &noise(3, WORK), &name);
+        assert_eq!((answer.refusal, answer.line), (refusal, at), "{name}");
+    }
+}
+
+#[test]
+fn a_short_buffer_is_refused_first_and_left_as_it_was() {
+    for length in [0, WORK - 1] {
+        let entry = noise(9, length);
+        let mut work = entry.clone();
+        let short = VerdictResult {
+            refusal: 1,
+            line: 0,
+        };
+        assert_eq!(verdict(&p_with(1, "types=3"), &mut work), short);
+        assert_eq!(work, entry);
+    }
+}

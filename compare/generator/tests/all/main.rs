@@ -1,0 +1,7 @@
+//! The generator and what its sheets reach.
+
+mod answers;
+mod edges;
+mod mills;
+mod report;
+mod sheets;

@@ -1,0 +1,47 @@
+//! What the tests share: the example sheets and small changes to them.
+
+use second::{Outcome, Refusal, RunAnswer};
+
+/// P, the clerk before a scale.
+pub const CLERK: &[u8] = include_bytes!("../../../../examples/clerk.sheet");
+/// L, a method that calls itself for ever.
+pub const LOOP: &[u8] = include_bytes!("../../../../examples/stack-full.sheet");
+
+/// A sheet written with ` / ` for its line breaks.
+pub fn sheet(lines: &str) -> Vec<u8> {
+    let mut text = lines.replace(" / ", "\n").into_bytes();
+    text.push(b'\n');
+    text
+}
+
+/// The text with line `place`, counted from 1, exchanged.
+pub fn with_line(text: &[u8], place: usize, line: &str) -> Vec<u8> {
+    let text = std::str::from_utf8(text).expect("a sheet is plain text");
+    let mut lines: Vec<&str> = text.lines().collect();
+    lines[place - 1] = line;
+    (lines.join("\n") + "\n").into_bytes()
+}
+
+/// Refusal number and line of a verdict; zeros if the sheet is accepted.
+pub fn verdict(text: &[u8]) -> (u32, u32) {
+    pair(second::verdict(text))
+}
+
+/// Refusal number and line of any answer; zeros if there is none.
+pub fn pair<T>(answer: Result<T, Refusal>) -> (u32, u32) {
+    match answer {
+        Ok(_) => (0, 0),
+        Err(refusal) => (refusal.number(), refusal.line),
+    }
+}
+
+/// A run's answer in one piece.
+pub fn run(text: &[u8], budget: u32) -> (Outcome, u32, u16, u16) {
+    let RunAnswer {
+        outcome,
+        steps,
+        value,
+        objects,
+    } = second::run(text, budget).expect("an accepted sheet");
+    (outcome, steps, value, objects)
+}

@@ -1,0 +1,10 @@
+//! The second program, rule by rule.
+
+mod authority;
+mod bad_input;
+mod common;
+mod fit;
+mod machine;
+mod paper;
+mod program;
+mod refusals;

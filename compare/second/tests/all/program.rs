@@ -1,0 +1,74 @@
+//! The program: its command line, its standard input and output.
+
+use crate::common::*;
+use std::io::Write;
+use std::process::{Command, Stdio};
+
+/// Standard output and exit status for a command line and a sheet.
+fn program(words: &[&str], text: &[u8]) -> (String, i32) {
+    let mut child = Command::new(env!("CARGO_BIN_EXE_second"))
+        .args(words)
+        .stdin(Stdio::piped())
+        .stdout(Stdio::piped())
+        .stderr(Stdio::piped())
+        .spawn()
+        .expect("the program starts");
+    let mut input = child.stdin.take().expect("a pipe");
+    // A wrong command line ends the program before it reads the sheet.
+    let _ = input.write_all(text);
+    drop(input);
+    let output = child.wait_with_output().expect("the program ends");
+    let status = output.status.code().expect("an exit status");
+    assert_eq!(status == 2, !output.stderr.is_empty());
+    (
+        String::from_utf8(output.stdout).expect("plain text"),
+        status,
+    )
+}
+
+#[test]
+fn questions_and_answers() {
+    let cases: [(&[&str], &str); 8] = [
+        (&["verdict"], "verdict=0\nline=0\n"),
+        (&["fit", "0", "1"], "fit=0\n"),
+        (&["fit", "2", "2"], "fit=1\n"),
+        (&["fit", "3", "0"], "verdict=7\nline=0\n"),
+        (&["run", "8"], "run=0,8,0,3\n"),
+        (&["run", "7"], "run=1,7,65535,3\n"),
+        (&["authority", "8", "256"], "holder=256,1,2\n"),
+        (&["authority", "2", "2"], "verdict=11\nline=0\n"),
+    ];
+    for (words, expected) in cases {
+        assert_eq!(program(words, CLERK), (expected.into(), 0), "{words:?}");
+    }
+    assert_eq!(program(&[], CLERK), (second::print(CLERK), 0));
+}
+
+#[test]
+fn refusals_are_answers() {
+    let long = vec![b'7'; 70_000];
+    for words in [&[][..], &["verdict"], &["run", "1"], &["fit", "0", "0"]] {
+        assert_eq!(program(words, b""), ("verdict=3\nline=1\n".into(), 0));
+        assert_eq!(program(words, &long), ("verdict=2\nline=0\n".into(), 0));
+    }
+}
+
+#[test]
+fn wrong_command_lines() {
+    let cases: [&[&str]; 9] = [
+        &["fits", "0", "1"],
+        &["fit", "0"],
+        &["verdict", "0"],
+        &["run"],
+        &["run", "-1"],
+        &["run", "+1"],
+        &["run", "4294967296"],
+        &["authority", "1"],
+        &["run", ""],
+    ];
+    for words in cases {
+        assert_eq!(program(words, CLERK), (String::new(), 2), "{words:?}");
+    }
+    let (help, status) = program(&["--help"], b"");
+    assert!(help.contains("run=OUTCOME,STEPS,VALUE,OBJECTS") && status == 0);
+}

@@ -1,0 +1,40 @@
+-- What the library's answers are in numbers, as a caller in C has them (document 01, Turned away). Stands on the answers.
+use Rattle.sheet_rules.specs.declared.Verdict.{Verdict}
+use Rattle.sheet_rules.specs.Answers.{numberOf, verdictNumber, verdictLine}
+use Rattle.type_rules.specs.declared.FitReply.{FitReply}
+use Rattle.machine_rules.specs.declared.RunReply.{RunReply}
+use Rattle.machine_rules.specs.Steps.{outcomeNumber}
+use Rattle.authority_rules.specs.declared.AuthorityReply.{AuthorityReply}
+use Rattle.authority_rules.specs.declared.ReportReply.{ReportReply}
+use Rattle.results.specs.declared.FitResult.{FitResult}
+use Rattle.results.specs.declared.RunResult.{RunResult}
+use Rattle.results.specs.declared.VerdictResult.{VerdictResult}
+use Rattle.results.specs.declared.AuthorityResult.{AuthorityResult}
+use Rattle.results.specs.declared.ReportResult.{ReportResult}
+
+-- the fit question: refusal number or 0, its line or 0, and 1 for yes
+abbrev pub fitResult : FitReply → FitResult
+fitResult FitReply.Fits = record { refusal = 0; line = 0; fits = 1 }
+fitResult FitReply.FitsNot = record { refusal = 0; line = 0; fits = 0 }
+fitResult (FitReply.Refused r n) = record { refusal = numberOf r; line = n; fits = 0 }
+
+-- the verdict: the paper's number and line, 0 and 0 when accepted
+abbrev pub verdictResult : Verdict → VerdictResult
+verdictResult v = record { refusal = verdictNumber v; line = verdictLine v }
+
+-- the run: the paper's numbers of its answer; or a refusal's number and line, and the rest 0
+abbrev pub runResult : RunReply → RunResult
+runResult (RunReply.Ran a) =
+    record { refusal = 0; line = 0; outcome = outcomeNumber (a .outcome); steps = a .steps; value = a .value; objects = a .objects }
+runResult (RunReply.Refused r n) = record { refusal = numberOf r; line = n; outcome = 0; steps = 0; value = 0; objects = 0 }
+
+-- the authority question: how many numbers were written, or a refusal's number and line
+abbrev pub authorityResult : AuthorityReply → AuthorityResult
+authorityResult (AuthorityReply.Holds n) = record { refusal = 0; line = 0; count = n }
+authorityResult (AuthorityReply.Refused r n) = record { refusal = numberOf r; line = n; count = 0 }
+
+-- the report: the run's numbers and how many numbers were written; or a refusal's number and line, and the rest 0
+abbrev pub reportResult : ReportReply → ReportResult
+reportResult (ReportReply.Reported a n) =
+    record { refusal = 0; line = 0; outcome = outcomeNumber (a .outcome); steps = a .steps; value = a .value; objects = a .objects; count = n }
+reportResult (ReportReply.Refused r n) = record { refusal = numberOf r; line = n; outcome = 0; steps = 0; value = 0; objects = 0; count = 0 }

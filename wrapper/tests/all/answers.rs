@@ -1,0 +1,82 @@
+//! The wrapper on the paper's sheet, and on the example of each refusal.
+
+use lexondar::{authority, fits, report, run, verdict};
+use lexondar::{Held, Holders, Outcome, Reason, Refusal, Run, Work, MAIN};
+
+const CLERK: &[u8] = include_bytes!("../../../examples/clerk.sheet");
+
+#[test]
+fn the_clerk_is_accepted_and_runs() {
+    let mut work = Work::new();
+    assert_eq!(verdict(CLERK, &mut work), Ok(()));
+    let done = Run {
+        outcome: Outcome::Done { value: 0 },
+        steps: 8,
+        objects: 3,
+    };
+    assert_eq!(run(CLERK, 8, &mut work), Ok(done));
+    let spent = Run {
+        outcome: Outcome::Spent,
+        steps: 7,
+        objects: 3,
+    };
+    assert_eq!(run(CLERK, 7, &mut work), Ok(spent));
+    assert_eq!(fits(CLERK, 1, 1, &mut work), Ok(true));
+    assert_eq!(fits(CLERK, 1, 0, &mut work), Ok(false));
+}
+
+#[test]
+fn each_holder_of_the_clerk_holds_what_the_paper_says() {
+    let (mut work, mut held) = (Work::default(), Held::default());
+    let sets: [(usize, &[u16]); 3] = [(MAIN, &[1, 2]), (1, &[1]), (2, &[1, 2])];
+    for (holder, set) in sets {
+        let given = authority(CLERK, 8, holder, &mut work, &mut held);
+        assert_eq!(given, Ok(set), "holder {holder}");
+    }
+    let mut room = Holders::default();
+    let (answer, holders) = report(CLERK, 10_000, &mut work, &mut room).expect("accepted");
+    assert_eq!(answer.steps, 8);
+    let all: Vec<(usize, &[u16])> = holders.map(|(holder, set)| (holder.into(), set)).collect();
+    assert_eq!(all, sets);
+}
+
+fn refused(reason: Reason, line: u32) -> Result<(), Refusal> {
+    Err(Refusal { reason, line })
+}
+
+/// The examples of refused sheets, each with its reason and line.
+const REFUSED: [(&str, Reason, u32); 8] = [
+    ("refused-3-torn", Reason::Malformed, 20),
+    ("refused-4-limit", Reason::OutOfLimit, 1),
+    ("refused-5-order", Reason::NotAscending, 5),
+    ("refused-6-twin", Reason::DuplicateRow, 6),
+    ("refused-7-slot", Reason::NotDefined, 20),
+    ("refused-8-pure", Reason::ImpureForm, 13),
+    ("refused-9-method", Reason::NoSuchMember, 20),
+    ("refused-10-misfit", Reason::Misfit, 19),
+];
+
+#[test]
+fn each_refusal_has_its_name() {
+    let mut work = Work::new();
+    for (name, reason, line) in REFUSED {
+        let root = env!("CARGO_MANIFEST_DIR");
+        let text = std::fs::read(format!("{root}/../examples/{name}.sheet")).expect("an example");
+        assert_eq!(verdict(&text, &mut work), refused(reason, line), "{name}");
+    }
+    let long = vec![b'\n'; 65_536];
+    assert_eq!(verdict(&long, &mut work), refused(Reason::TextTooLong, 0));
+    assert_eq!(verdict(b"", &mut work), refused(Reason::Malformed, 1));
+}
+
+#[test]
+fn a_number_that_is_no_holder_is_refused_after_the_run() {
+    let (mut work, mut held) = (Work::new(), Held::new());
+    for holder in [0, 3, 255, 257, usize::MAX] {
+        let given = authority(CLERK, 8, holder, &mut work, &mut held);
+        let refusal = given.expect_err("no holder");
+        assert_eq!((refusal.reason, refusal.line), (Reason::NoHolder, 0));
+        assert_eq!(refusal.reason.number(), 11);
+        assert_eq!(refusal.to_string(), "refusal 11: there is no such holder");
+    }
+}

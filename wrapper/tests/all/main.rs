@@ -1,0 +1,4 @@
+//! The library by its Rust types.
+
+mod answers;
+mod example;
