@@ -18,7 +18,7 @@ use Rattle.machine_rules.specs.Step.{calls, stackFull, bodyIn, entered, calledS
 use Rattle.machine_rules.specs.Sound.{Sound}
 use Rattle.machine_rules.proofs.StoreLaws.{values-made}
 use Rattle.machine_rules.proofs.NextLaws.{its-step, its-stack, its-lack}
-use Rattle.authority_rules.specs.Authority.{isResource, frames, holderOf, topHolder}
+use Rattle.authority_rules.specs.Authority.{isResource, frames, holderOf, topHolder, holds}
 use Rattle.authority_rules.specs.Gain.{Gain, argument}
 use Rattle.authority_rules.proofs.HoldingLaws.{SlotOf, this, later, Reaches, by-slot, by-own, is-holds}
 use Rattle.authority_rules.proofs.KindLaws.{pure-keeps}
@@ -46,12 +46,16 @@ module _ (s : Sheet) (w : WellFormed s) (t : Typed s) (σ : State) (c : Sound s 
       old : Reaches s (σ .objects) (frames σ) h b → Gain s σ h b (calls receiver value)
       old r = absurd (new (record { resource = p .resource; reaches = r }))
 
+      -- the argument comes from the caller's authority
+      held : b ≡ value → T (holds s σ (topHolder s σ) b)
+      held k =
+          is-holds s σ (topHolder s σ) b (c .places)
+          (record { resource = p .resource; reaches = top-slot s σ b (subst (λ (y : ℕ). In y (σ .top .slots)) (sym k) j) })
+
       -- a resource receiver, in whose frame b is
       receives : T (isResource s (σ .objects) receiver) → h ≡ receiver → In b (receiver ∷ value ∷ x .kept) → Gain s σ h b (calls receiver value)
       receives r e (here k) = old (subst (λ (y : ℕ). Reaches s (σ .objects) (frames σ) y b) (sym e) (by-own r (here k)))
-      receives r e (there (here k)) =
-          argument e k (is-holds s σ (topHolder s σ) b (c .places)
-          (record { resource = p .resource; reaches = top-slot s σ b (subst (λ (y : ℕ). In y (σ .top .slots)) (sym k) j) }))
+      receives r e (there (here k)) = argument r e k (held k)
       receives r e (there (there k)) = old (subst (λ (y : ℕ). Reaches s (σ .objects) (frames σ) y b) (sym e) (by-own r (there (in-left (x .kept) (x .fields) k))))
 
       -- a pure receiver, whose frame belongs to the caller's holder

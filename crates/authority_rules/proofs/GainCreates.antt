@@ -23,7 +23,7 @@ use Rattle.machine_rules.specs.Step.{creates, step, storeFull, slotValues, with
 use Rattle.machine_rules.specs.Sound.{Sound}
 use Rattle.machine_rules.proofs.StoreLaws.{values-made, Grows, grows-append, SoundStore}
 use Rattle.machine_rules.proofs.NextLaws.{its-step, its-store}
-use Rattle.authority_rules.specs.Authority.{isResource, frames, topHolder, ownValues}
+use Rattle.authority_rules.specs.Authority.{isResource, frames, topHolder, ownValues, holds}
 use Rattle.authority_rules.specs.Gain.{Gain, maker, itself, endowed}
 use Rattle.authority_rules.proofs.HoldingLaws.{in-contains, SlotOf, Reaches, by-slot, by-own, resource-made, is-holds}
 use Rattle.authority_rules.proofs.StableLaws.{all-frames, slot-made, resource-same, slot-filled}
@@ -83,12 +83,14 @@ module _ (s : Sheet) (t : Typed s) (σ : State) (c : Sound s σ) where
       old k r = absurd (new (record { resource = before b k (p .resource); reaches = r }))
 
       -- a kept value comes from the maker's authority
-      from-maker : h ≡ number → In b kept → Gain s σ h b (creates number kept)
-      from-maker e i =
+      held : In b kept → T (holds s σ (topHolder s σ) b)
+      held i =
           let j : In b (σ .top .slots) = in-values (σ .top .slots) (pairwise-length (c .top .slots)) fit i in
-          endowed e (in-contains kept b i)
-          (is-holds s σ (topHolder s σ) b (c .places)
-          (record { resource = before b (values-made (c .top .slots) j) (p .resource); reaches = top-slot s σ b j }))
+          is-holds s σ (topHolder s σ) b (c .places)
+          (record { resource = before b (values-made (c .top .slots) j) (p .resource); reaches = top-slot s σ b j })
+
+      from-maker : h ≡ number → In b kept → Gain s σ h b (creates number kept)
+      from-maker e i = endowed e (in-contains kept b i) (held i)
 
       kept-length : length kept ≡ length ((formAt s f) .keeps)
       kept-length = length-map ss (λ v. getD (σ .top .slots) v 0) ∙ pairwise-length fit

@@ -1,60 +1,51 @@
--- The converse of GainLaws: each way of Gain does give the holder the resource, so that none of them is idle. A return gives its
--- value and nothing else. Assumes nothing.
-use Prim.Native.Nat.{ℕ, _<_}
+-- The converse of GainLaws: what a way of Gain gives is held after the step, so that a resource is new in an authority exactly
+-- when one of the three ways gives it. Assumes nothing.
+use Prim.Native.Nat.{ℕ}
 use native.Mathlib.Omega.{arith}
 use mathlib.Core.Path.{_≡_, refl, sym, ap, _∙_, subst}
 use mathlib.Core.Bool.{Bool, true, false, cond}
 use mathlib.Core.List.{List, [], _∷_, _++_}
 use mathlib.Core.Option.{Option, none, some}
-use mathlib.Core.Logic.{_⊎_, inl, inr}
-use lib.Dec.{T, eqb, eqb→eq, ltb}
-use lib.ListN.{length, getD}
+use lib.Dec.{T, ltb}
+use lib.ListN.{length, getD, length-append}
 use lib.Seq.{getD-append-seam}
-use borrow.Author.Tests.{ltb-true}
 use Rattle.lists.specs.In.{In, here, there}
 use Rattle.lists.proofs.InLaws.{in-left, in-right}
-use Rattle.lists.proofs.Tests.{or-cases, T→true}
+use Rattle.lists.proofs.Tests.{T→true, true→T}
+use Rattle.sheet_rules.specs.declared.Verdict.the-variants.{Accepted}
+use Rattle.sheet_rules.specs.Reading.{readable, meaning}
 use Rattle.sheet_rules.specs.Limits.{storeLimit, stackLimit}
 use Rattle.sheet_rules.specs.Sheet.{Instr, new, call, get, put, copy, Sheet}
 use Rattle.sheet_rules.specs.WellFormed.{WellFormed}
-use Rattle.type_rules.specs.Typed.{typed-call, CodeTyped, next, Typed}
+use Rattle.type_rules.specs.Typing.{verdict}
+use Rattle.type_rules.specs.Typed.{Typed}
 use Rattle.machine_rules.specs.State.{Object, Frame, State, frameCount, noObject, objectAt, made, lastOf, filled}
 use Rattle.machine_rules.specs.Step.{Action, creates, calls, returns, works, Next, step, storeFull, stackFull, bodyIn, fieldPlace, membersOf, slotValues, withNew, newStep, entered, calledStep, callStep, gotStep, getStep, hasPutStep, putStep, instrStep, returnStep, codeStep, nextStep}
+use Rattle.machine_rules.specs.Steps.{after}
 use Rattle.machine_rules.specs.Sound.{Sound}
-use Rattle.machine_rules.proofs.StoreLaws.{values-made, grows-append}
+use Rattle.machine_rules.proofs.StoreLaws.{grows-append}
 use Rattle.machine_rules.proofs.NextLaws.{Comes, its-end, its-step, its-store, its-stack, its-lack, comes-step}
-use Rattle.machine_rules.proofs.SoundLaws.{step-sound}
-use Rattle.authority_rules.specs.Authority.{mainHolder, isResource, isHolder, frames, holderOf, topHolder, ownValues, holds}
+use Rattle.machine_rules.proofs.SoundLaws.{step-sound, after-sound, accepted-sheet}
+use Rattle.authority_rules.specs.Authority.{isResource, frames, holderOf, topHolder, ownValues, holds}
 use Rattle.authority_rules.specs.Gain.{Gain, maker, itself, endowed, argument, result}
 use Rattle.authority_rules.proofs.HoldingLaws.{contains-in, this, Reaches, by-slot, by-own, is-holds}
 use Rattle.authority_rules.proofs.StableLaws.{all-frames, holder-same}
-use Rattle.authority_rules.proofs.GainWorks.{top-value}
+use Rattle.authority_rules.proofs.KindLaws.{pure-keeps}
 
--- after a step, a holder holds each resource that a way of its action gives; of a return, that is its value
+-- after a step to a sound state, each resource that a way of its action gives is reached
 abbrev Gives : Sheet → State → Action → State → Type 0
-Gives s σ a σ′ =
-    (h b : ℕ) → T (isHolder s σ′ h) → T (isResource s (σ′ .objects) b) → (a ≡ returns → b ≡ lastOf (σ .top .slots)) → Gain s σ h b a
-    → Reaches s (σ′ .objects) (frames σ′) h b
+Gives s σ a σ′ = Sound s σ′ → (h b : ℕ) → T (isResource s (σ′ .objects) b) → Gain s σ h b a → Reaches s (σ′ .objects) (frames σ′) h b
 
 abbrev GivesNext : Sheet → State → Next → Type 0
 GivesNext s σ = Comes (Gives s σ) (Unit {0}) (Unit {0}) (Unit {0})
 
--- a holder below main's number is a resource
-holder-resource : (s : Sheet) (σ : State) (h : ℕ) → h < mainHolder → T (isHolder s σ h) → T (isResource s (σ .objects) h)
-holder-resource s σ h l t = go (or-cases (eqb h mainHolder) (isResource s (σ .objects) h) t)
-  where
-    go : T (eqb h mainHolder) ⊎ T (isResource s (σ .objects) h) → T (isResource s (σ .objects) h)
-    go (inl u) = let e : h ≡ mainHolder = eqb→eq h mainHolder u in absurd (omega arith)
-    go (inr u) = u
-
 works-gives : (s : Sheet) (σ σ′ : State) → Gives s σ works σ′
-works-gives s σ σ′ h b i r e g = elim g [ ]
+works-gives s σ σ′ after h b r g = elim g [ ]
 
-module _ (s : Sheet) (σ : State) (c : Sound s σ) where
-  new-gives : (is : List Instr) (f : ℕ) (kept : List ℕ) → length (σ .objects) < storeLimit
-      → Gives s σ (creates (length (σ .objects)) kept) (withNew s σ is f kept)
+module _ (s : Sheet) (w : WellFormed s) (t : Typed s) (σ : State) (c : Sound s σ) where
+  new-gives : (is : List Instr) (f : ℕ) (kept : List ℕ) → Gives s σ (creates (length (σ .objects)) kept) (withNew s σ is f kept)
   unfolding holderOf
-  new-gives is f kept l h b i r v g = go g
+  new-gives is f kept after h b r g = go g
     where
       x : Object
       x = made s f kept
@@ -74,38 +65,44 @@ module _ (s : Sheet) (σ : State) (c : Sound s σ) where
           by-own q (subst (λ (y : ℕ). In b (ownValues y (objectAt os y))) (sym e)
           (subst (λ (y : Object). In b (ownValues number y)) (sym (getD-append-seam (σ .objects) x [] noObject)) k))
 
+      -- an object that keeps a resource is one: a pure one keeps pure objects alone
+      keeper : In b kept → (y : Bool) → isResource s os number ≡ y → T (isResource s os number)
+      keeper i true e = true→T (isResource s os number) e
+      keeper i false e =
+          absurd (pure-keeps s w t (withNew s σ is f kept) after number b (omega (arith, length-append (σ .objects) (x ∷ []))) e
+          (subst (λ (y : Object). In b (y .kept)) (sym (getD-append-seam (σ .objects) x [] noObject)) i) r)
+
       go : Gain s σ h b (creates number kept) → Reaches s os (frames (withNew s σ is f kept)) h b
       go (maker e k) = by-slot (this (same ∙ sym e) (in-right (σ .top .slots) (number ∷ []) (here k)))
       go (itself e k) = fresh e (subst (λ (y : ℕ). T (isResource s os y)) (k ∙ sym e) r) (here k)
-      go (endowed e k q) = fresh e (holder-resource s (withNew s σ is f kept) h (omega arith) i) (there (in-left kept (x .fields) (contains-in kept b k)))
+      go (endowed e k q) =
+          let i : In b kept = contains-in kept b k in
+          fresh e (subst (λ (y : ℕ). T (isResource s os y)) (sym e) (keeper i (isResource s os number) refl)) (there (in-left kept (x .fields) i))
 
-  call-gives : (is code : List Instr) (receiver value : ℕ) → receiver < length (σ .objects) → Gives s σ (calls receiver value) (entered σ is receiver value code)
+  call-gives : (is code : List Instr) (receiver value : ℕ) → Gives s σ (calls receiver value) (entered σ is receiver value code)
   unfolding holderOf
-  call-gives is code receiver value l h b i r v (argument e k q) =
-      let m : T (isResource s (σ .objects) h) = holder-resource s (entered σ is receiver value code) h (omega (arith, c .places)) i in
-      let n : T (isResource s (σ .objects) receiver) = subst (λ (y : ℕ). T (isResource s (σ .objects) y)) e m in
+  call-gives is code receiver value after h b r (argument n e k q) =
       by-slot (this (ap (λ (y : Bool). cond y receiver (topHolder s σ)) (T→true (isResource s (σ .objects) receiver) n) ∙ sym e) (there (here k)))
 
   return-gives : (f : Frame) (fs : List Frame) → σ .below ≡ f ∷ fs
-      → Gives s σ returns (record { objects = σ .objects; top = filled f (lastOf (σ .top .slots)); below = fs })
+      → Gives s σ (returns (lastOf (σ .top .slots))) (record { objects = σ .objects; top = filled f (lastOf (σ .top .slots)); below = fs })
   unfolding holderOf
-  return-gives f fs d h b i r v (result m n q e) =
-      by-slot (this (ap (holderOf s (σ .objects)) (sym d) ∙ sym e) (in-right (f .slots) (lastOf (σ .top .slots) ∷ []) (here (v refl))))
+  return-gives f fs d after h b r (result m n k q e) =
+      by-slot (this (ap (holderOf s (σ .objects)) (sym d) ∙ sym e) (in-right (f .slots) (lastOf (σ .top .slots) ∷ []) (here k)))
 
   new-gives-next : (is : List Instr) (f : ℕ) (kept : List ℕ) → GivesNext s σ (newStep s σ is f kept)
-  new-gives-next is f kept = go (ltb (length (σ .objects)) storeLimit) refl
+  new-gives-next is f kept = go (ltb (length (σ .objects)) storeLimit)
     where
-      go : (b : Bool) → ltb (length (σ .objects)) storeLimit ≡ b
-          → GivesNext s σ (cond b (step (creates (length (σ .objects)) kept) (withNew s σ is f kept)) storeFull)
-      go true e = its-step (new-gives is f kept (ltb-true (length (σ .objects)) storeLimit e))
-      go false e = its-store tt
+      go : (b : Bool) → GivesNext s σ (cond b (step (creates (length (σ .objects)) kept) (withNew s σ is f kept)) storeFull)
+      go true = its-step (new-gives is f kept)
+      go false = its-store tt
 
-  call-gives-next : (is : List Instr) (receiver n value : ℕ) → receiver < length (σ .objects) → GivesNext s σ (callStep s σ is receiver n value)
-  call-gives-next is receiver n value l = go (ltb (frameCount σ) stackLimit) (bodyIn _ _ n)
+  call-gives-next : (is : List Instr) (receiver n value : ℕ) → GivesNext s σ (callStep s σ is receiver n value)
+  call-gives-next is receiver n value = go (ltb (frameCount σ) stackLimit) (bodyIn _ _ n)
     where
       go : (b : Bool) (code : Option (List Instr)) → GivesNext s σ (cond b (calledStep σ is receiver value code) stackFull)
       go true none = its-lack tt
-      go true (some code) = its-step (call-gives is code receiver value l)
+      go true (some code) = its-step (call-gives is code receiver value)
       go false code = its-stack tt
 
   get-gives-next : (is : List Instr) (own : Option ℕ) (n : ℕ) → GivesNext s σ (getStep s σ is own n)
@@ -129,23 +126,28 @@ module _ (s : Sheet) (σ : State) (c : Sound s σ) where
   return-gives-next [] d = its-end
   return-gives-next (f ∷ fs) d = its-step (return-gives f fs d)
 
-  code-gives : (is : List Instr) → CodeTyped s (c .own) (c .result) (c .rows) is → GivesNext s σ (codeStep s σ is)
+  code-gives : (is : List Instr) → GivesNext s σ (codeStep s σ is)
   unfolding codeStep instrStep
-  code-gives [] t = return-gives-next (σ .below) refl
-  code-gives (new f ss ∷ is) t = new-gives-next is f (slotValues (σ .top .slots) ss)
-  code-gives (call o n a ∷ is) (next (typed-call h e fit) t) =
-      call-gives-next is (getD (σ .top .slots) o 0) n (getD (σ .top .slots) a 0) (values-made (c .top .slots) (top-value s σ c o h))
-  code-gives (get n ∷ is) t = get-gives-next is (σ .top .own) n
-  code-gives (put n v ∷ is) t = put-gives-next is (σ .top .own) n (getD (σ .top .slots) v 0)
-  code-gives (copy v ∷ is) t = its-step (works-gives s σ _)
+  code-gives [] = return-gives-next (σ .below) refl
+  code-gives (new f ss ∷ is) = new-gives-next is f (slotValues (σ .top .slots) ss)
+  code-gives (call o n a ∷ is) = call-gives-next is (getD (σ .top .slots) o 0) n (getD (σ .top .slots) a 0)
+  code-gives (get n ∷ is) = get-gives-next is (σ .top .own) n
+  code-gives (put n v ∷ is) = put-gives-next is (σ .top .own) n (getD (σ .top .slots) v 0)
+  code-gives (copy v ∷ is) = its-step (works-gives s σ _)
 
   next-gives : GivesNext s σ (nextStep s σ)
   unfolding nextStep
-  next-gives = code-gives (σ .top .code) (c .code)
+  next-gives = code-gives (σ .top .code)
 
--- said by the tests of the authority rules
-pub gain-gives : (s : Sheet) → WellFormed s → Typed s → (σ : State) → Sound s σ → (a : Action) (σ′ : State) → nextStep s σ ≡ step a σ′
-    → (h b : ℕ) → T (isHolder s σ′ h) → T (isResource s (σ′ .objects) b) → (a ≡ returns → b ≡ lastOf (σ .top .slots)) → Gain s σ h b a
-    → T (holds s σ′ h b)
-gain-gives s w t σ c a σ′ e h b i r v g =
-    is-holds s σ′ h b (step-sound s w t σ σ′ a c e .places) (record { resource = r; reaches = comes-step (next-gives s σ c) e h b i r v g })
+  -- what a step gives, said by the tests of the authority rules
+  pub step-gives : (a : Action) (σ′ : State) → nextStep s σ ≡ step a σ′ → (h b : ℕ) → T (isResource s (σ′ .objects) b) → Gain s σ h b a → T (holds s σ′ h b)
+  step-gives a σ′ e h b r g =
+      let after : Sound s σ′ = step-sound s w t σ σ′ a c e in
+      is-holds s σ′ h b (after .places) (record { resource = r; reaches = comes-step next-gives e after h b r g })
+
+-- of every accepted text, after every n steps: a gain of what is a resource after the step is held after it
+pub gain-gives : (text : List ℕ) (s : Sheet) → meaning text ≡ readable s → verdict text ≡ Accepted → (n : ℕ) (σ : State) → after s n ≡ some σ
+    → (a : Action) (σ′ : State) → nextStep s σ ≡ step a σ′ → (h b : ℕ) → T (isResource s (σ′ .objects) b) → Gain s σ h b a → T (holds s σ′ h b)
+gain-gives text s read accepted n σ reached =
+    let p = accepted-sheet text s read accepted in
+    step-gives s (p .0) (p .1) σ (after-sound s (p .0) (p .1) n σ reached)

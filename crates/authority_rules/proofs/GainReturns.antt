@@ -21,7 +21,7 @@ use Rattle.machine_rules.specs.Sound.{Receives, object, SoundBelow, waits, Soun
 use Rattle.machine_rules.proofs.StoreLaws.{grows-refl}
 use Rattle.machine_rules.proofs.FoundLaws.{lastOf-at}
 use Rattle.machine_rules.proofs.NextLaws.{its-step, its-end}
-use Rattle.authority_rules.specs.Authority.{isResource, frames, frameHolder, holderOf, topHolder}
+use Rattle.authority_rules.specs.Authority.{isResource, frames, frameHolder, holderOf, topHolder, holds}
 use Rattle.authority_rules.specs.Gain.{Gain, result}
 use Rattle.authority_rules.proofs.HoldingLaws.{SlotOf, later, Reaches, by-slot, by-own, is-holds}
 use Rattle.authority_rules.proofs.StableLaws.{below-frames, slot-filled}
@@ -42,7 +42,7 @@ module _ (s : Sheet) (σ : State) (c : Sound s σ) where
   top-holder e = receiver-holder (holderOf s (σ .objects) (σ .below)) (subst (Receives s (σ .objects) (σ .top .own) (c .own)) e (c .top .receives))
 
   return-gains : (r : ℕ) (f : Frame) (fs : List Frame) → c .result ≡ some r → σ .below ≡ f ∷ fs → 0 < length (c .rows)
-      → Gains s σ returns (record { objects = σ .objects; top = filled f (lastOf (σ .top .slots)); below = fs })
+      → Gains s σ (returns (lastOf (σ .top .slots))) (record { objects = σ .objects; top = filled f (lastOf (σ .top .slots)); below = fs })
   return-gains r f fs e d l h b p new = go (p .reaches)
     where
       v : ℕ
@@ -54,27 +54,30 @@ module _ (s : Sheet) (σ : State) (c : Sound s σ) where
           (in-getD (σ .top .slots) (pred (length (σ .top .slots))) 0 (omega (arith, pairwise-length (c .top .slots))))
 
       -- b was reached before
-      old : Reaches s (σ .objects) (frames σ) h b → Gain s σ h b returns
+      old : Reaches s (σ .objects) (frames σ) h b → Gain s σ h b (returns v)
       old q = absurd (new (record { resource = p .resource; reaches = q }))
 
       value : b ≡ v → Reaches s (σ .objects) (frames σ) (topHolder s σ) b
       value k = top-slot s σ b (subst (λ (y : ℕ). In y (σ .top .slots)) (sym k) v-in)
 
-      passed : h ≡ holderOf s (σ .objects) (σ .below) → b ≡ v → Dec (topHolder s σ ≡ h) → Gain s σ h b returns
+      held : b ≡ v → T (holds s σ (topHolder s σ) b)
+      held k = is-holds s σ (topHolder s σ) b (c .places) (record { resource = p .resource; reaches = value k })
+
+      passed : h ≡ holderOf s (σ .objects) (σ .below) → b ≡ v → Dec (topHolder s σ ≡ h) → Gain s σ h b (returns v)
       passed m k (yes same) = old (subst (λ (y : ℕ). Reaches s (σ .objects) (frames σ) y b) same (value k))
       passed m k (no other) = pick (top-holder e)
         where
-          pick : T (isResource s (σ .objects) (topHolder s σ)) ⊎ (topHolder s σ ≡ holderOf s (σ .objects) (σ .below)) → Gain s σ h b returns
-          pick (inl q) = result q other (is-holds s σ (topHolder s σ) b (c .places) (record { resource = p .resource; reaches = value k })) m
+          pick : T (isResource s (σ .objects) (topHolder s σ)) ⊎ (topHolder s σ ≡ holderOf s (σ .objects) (σ .below)) → Gain s σ h b (returns v)
+          pick (inl q) = result q other k (held k) m
           pick (inr q) = absurd (other (q ∙ sym m))
 
-      go : Reaches s (σ .objects) (filled f v ∷ fs) h b → Gain s σ h b returns
+      go : Reaches s (σ .objects) (filled f v ∷ fs) h b → Gain s σ h b (returns v)
       go (by-own q i) = old (by-own q i)
       go (by-slot q) =
           pick (slot-filled s (σ .objects) (σ .objects) (grows-refl (σ .objects)) f fs (f .code) v
           (below-frames (subst (SoundBelow s (σ .objects) (c .result)) d (c .below))) q)
         where
-          pick : SlotOf s (σ .objects) h b (f ∷ fs) ⊎ ((h ≡ holderOf s (σ .objects) (f ∷ fs)) × (b ≡ v)) → Gain s σ h b returns
+          pick : SlotOf s (σ .objects) h b (f ∷ fs) ⊎ ((h ≡ holderOf s (σ .objects) (f ∷ fs)) × (b ≡ v)) → Gain s σ h b (returns v)
           pick (inl k) = old (by-slot (later (subst (SlotOf s (σ .objects) h b) (sym d) k)))
           pick (inr k) = passed (k .0 ∙ ap (holderOf s (σ .objects)) (sym d)) (k .1) (ℕ-discrete (topHolder s σ) h)
 

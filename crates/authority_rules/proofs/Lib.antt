@@ -13,4 +13,5 @@ pub mod GainCalls
 pub mod GainReturns
 pub mod GainLaws
 pub mod GuaranteeHolds
+pub mod GuaranteeUsed
 pub mod GainGives

@@ -8,7 +8,7 @@ use lib.ListN.{length}
 use borrow.Author.Tests.{eq-eqb}
 use Rattle.lists.proofs.Tests.{T-ext, true→T}
 use Rattle.sheet_rules.specs.Sheet.{Sheet}
-use Rattle.sheet_rules.specs.Samples.{textOf, P}
+use Rattle.sheet_rules.specs.Samples.{textOf, withLine, P}
 use Rattle.machine_rules.specs.State.{State}
 use Rattle.authority_rules.specs.Authority.{mainHolder, isResource, isHolder, contains}
 use Rattle.authority_rules.specs.Report.{holders, report}
@@ -26,7 +26,11 @@ unfolding contains
 holders-exactly s σ h =
     λ i. eqb-sym mainHolder h i || passing-exactly (isResource s (σ .objects)) (length (σ .objects)) h (resource-below s (σ .objects) h) i
 
--- P's report is printed as the paper says (document 01, One sheet in full)
+-- P's report is printed as the paper says, and after a refusal only the first two lines (document 01, One sheet in full)
 pub of-P : printed (report (textOf P) 10000) ≡ textOf ("verdict=0" ∷ "line=0" ∷ "outcome=0" ∷ "steps=8" ∷ "value=0" ∷ "holder=256,1,2" ∷ "holder=1,1" ∷ "holder=2,1,2" ∷ [])
 unfolding holding
 of-P = refl
+
+pub of-refused : printed (report (textOf (withLine 20 "call=2,3,0" P)) 10000) ≡ textOf ("verdict=9" ∷ "line=20" ∷ [])
+unfolding holding
+of-refused = refl

@@ -18,8 +18,9 @@ pub data Gain (s : Sheet) (σ : State) (h b : ℕ) : Action → Type 0 where
   itself : {c : ℕ} {kept : List ℕ} → h ≡ c → b ≡ c → Gain s σ h b (creates c kept)
   -- a creation made c: c gets a kept value from the maker's authority
   endowed : {c : ℕ} {kept : List ℕ} → h ≡ c → T (contains kept b) → T (holds s σ (topHolder s σ) b) → Gain s σ h b (creates c kept)
-  -- a call: the receiver gets the argument from the caller's authority
-  argument : {receiver value : ℕ} → h ≡ receiver → b ≡ value → T (holds s σ (topHolder s σ) b) → Gain s σ h b (calls receiver value)
-  -- a return from a frame of another resource, whose authority has b, to a frame that belongs to h
-  result : T (isResource s (σ .objects) (topHolder s σ)) → topHolder s σ ≢ h → T (holds s σ (topHolder s σ) b)
-      → h ≡ holderOf s (σ .objects) (σ .below) → Gain s σ h b returns
+  -- a call: the receiver, a resource, gets the argument from the caller's authority
+  argument : {receiver value : ℕ} → T (isResource s (σ .objects) receiver) → h ≡ receiver → b ≡ value → T (holds s σ (topHolder s σ) b)
+      → Gain s σ h b (calls receiver value)
+  -- a return of b from a frame of another resource, whose authority has b, to a frame that belongs to h
+  result : {value : ℕ} → T (isResource s (σ .objects) (topHolder s σ)) → topHolder s σ ≢ h → b ≡ value → T (holds s σ (topHolder s σ) b)
+      → h ≡ holderOf s (σ .objects) (σ .below) → Gain s σ h b (returns value)

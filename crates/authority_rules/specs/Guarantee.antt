@@ -13,7 +13,7 @@ use Rattle.type_rules.specs.Typing.{verdict}
 use Rattle.machine_rules.specs.State.{State}
 use Rattle.machine_rules.specs.Step.{Action, finished, step, storeFull, stackFull, nextStep}
 use Rattle.machine_rules.specs.Steps.{after}
-use Rattle.machine_rules.specs.Stopped.{NoPlace, NoFrame}
+use Rattle.machine_rules.specs.Stopped.{AtEnd, NoPlace, NoFrame}
 use Rattle.authority_rules.specs.Authority.{holds}
 use Rattle.authority_rules.specs.Gain.{Gain}
 
@@ -23,21 +23,24 @@ use Rattle.authority_rules.specs.Gain.{Gain}
 abbrev pub Finished : Sheet → State → Type 0
 Finished s σ = (v : ℕ) × (nextStep s σ ≡ finished v)
 
--- there is a next step, and it can be taken (The machine; Who holds what)
-abbrev pub CanStep : Sheet → State → Type 0
-CanStep s σ = (a : Action) × (σ′ : State) × (nextStep s σ ≡ step a σ′)
+-- there is a next step, it can be taken, and every next step is that one (The machine; Who holds what)
+pub record CanStep (s : Sheet) (σ : State) : Type 0 where
+  pub action : Action
+  pub leaves : State
+  pub is : nextStep s σ ≡ step action leaves
+  pub only : (a : Action) (σ′ : State) → nextStep s σ ≡ step a σ′ → (a ≡ action) × (σ′ ≡ leaves)
 
 -- the next step is stopped, by a full store or by a full stack (The machine; Who holds what)
 abbrev pub Stopped : Sheet → State → Type 0
 Stopped s σ = (nextStep s σ ≡ storeFull) ⊎ (nextStep s σ ≡ stackFull)
 
--- one of three holds, and no two do (The machine; Who holds what)
+-- at least one of three holds (The machine)
 pub data OneOf (A B C : Type 0) : Type 0 where
   first : A → OneOf A B C
   second : B → OneOf A B C
   third : C → OneOf A B C
 
--- exactly one of three holds (The machine)
+-- exactly one of three holds: one does, and no two do (The machine)
 pub record ExactlyOneOf (A B C : Type 0) : Type 0 where
   pub one : OneOf A B C
   pub not-first-second : A → B → ⊥
@@ -50,6 +53,8 @@ pub record ExactlyOneOf (A B C : Type 0) : Type 0 where
 pub record Guarantee (s : Sheet) (σ : State) : Type 0 where
   -- it is finished, or has one next step that can be taken, or is stopped, and never two of these
   pub next : ExactlyOneOf (Finished s σ) (CanStep s σ) (Stopped s σ)
+  -- it is finished exactly when the top frame is main's and has no instruction left
+  pub finishes : Finished s σ ↔ AtEnd σ
   -- it is stopped by a full store exactly when the next instruction is a `new` and there are 256 objects
   pub stoppedByStore : (nextStep s σ ≡ storeFull) ↔ NoPlace σ
   -- it is stopped by a full stack exactly when the next instruction is a `call` and there are 64 frames

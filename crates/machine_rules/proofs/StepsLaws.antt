@@ -2,19 +2,21 @@
 -- Assumes nothing.
 use Prim.Native.Nat.{ℕ, zero, suc, pred, _+_, _≤_, _<_}
 use native.Mathlib.Omega.{arith}
-use mathlib.Core.Path.{_≡_, refl, ap, _∙_}
+use mathlib.Core.Path.{_≡_, refl, sym, ap, _∙_, subst}
 use mathlib.Core.Bool.{Bool, true, false, cond}
 use mathlib.Core.List.{List, [], _∷_, _++_}
 use mathlib.Core.Option.{Option, none, some}
 use lib.Dec.{ltb}
 use lib.ListN.{length, length-append, length-set}
+use Rattle.lists.proofs.Tests.{clash}
 use Rattle.sheet_rules.specs.Limits.{storeLimit, stackLimit}
 use Rattle.sheet_rules.specs.Sheet.{Sheet, Instr, new, call, get, put, copy}
 use Rattle.machine_rules.specs.declared.Outcome.{Outcome}
 use Rattle.machine_rules.specs.declared.Outcome.the-variants.{Done, Spent, StoreFull, StackFull}
+use Rattle.machine_rules.specs.declared.Tally.{Tally}
 use Rattle.machine_rules.specs.State.{Frame, State, start, frameCount, made, objectAt}
-use Rattle.machine_rules.specs.Step.{Action, creates, Next, finished, step, storeFull, stackFull, lacking, bodyIn, fieldPlace, membersOf, slotValues, withNew, newStep, calledStep, callStep, gotStep, getStep, withField, hasPutStep, putStep, instrStep, returnStep, codeStep, nextStep}
-use Rattle.machine_rules.specs.Steps.{stateOf, stepFrom, after, tallyOf, startTally, counted, Ran, budgetUsed, goOn, runFrom, run}
+use Rattle.machine_rules.specs.Step.{Action, creates, calls, returns, works, Next, finished, step, storeFull, stackFull, lacking, bodyIn, fieldPlace, membersOf, slotValues, withNew, newStep, calledStep, callStep, gotStep, getStep, withField, hasPutStep, putStep, instrStep, returnStep, codeStep, nextStep}
+use Rattle.machine_rules.specs.Steps.{stateOf, stepFrom, after, isCreation, isCall, isReturn, oneIf, oneFrom, amongFirst, tallyOf, startTally, counted, Ran, budgetUsed, goOn, runFrom, run}
 
 -- the state after n + 1 steps is one step from the state after n
 pub after-suc : (s : Sheet) (n : ℕ) → after s (suc n) ≡ stepFrom s (after s n)
@@ -25,6 +27,12 @@ pub after-step : (s : Sheet) (n : ℕ) (σ σ′ : State) (a : Action) → after
 after-step s n σ σ′ a p q = after-suc s n ∙ ap (stepFrom s) p ∙ ap stateOf q
 
 -- the tally: the start, and what a step that is taken does to the counts
+
+abbrev objectsOf : Tally → ℕ
+objectsOf t = t .objects
+
+abbrev framesOf : Tally → ℕ
+framesOf t = t .frames
 
 -- the tally that a run starts with counts the state that it starts in
 pub tally-start : (s : Sheet) → tallyOf 0 (start s) ≡ startTally
@@ -95,10 +103,53 @@ module _ (s : Sheet) (n : ℕ) (σ : State) where
   tally-code [] = tally-return (σ .below) refl
   tally-code (i ∷ is) = tally-instr i is
 
-  -- the number of objects is the creations taken, and the number of frames one plus calls less returns
+  -- the counts after the next step
   pub tally-next : Counted n σ (nextStep s σ)
   unfolding nextStep
   tally-next = tally-code (σ .top .code)
+
+-- what the counts are, for every n: the number of objects is the number of creations among the first n steps, and the number of
+-- frames is one plus the calls less the returns
+pub record CountsTaken (s : Sheet) (n : ℕ) (σ : State) : Type 0 where
+  pub objects : length (σ .objects) ≡ amongFirst isCreation s n
+  pub frames : frameCount σ + amongFirst isReturn s n ≡ 1 + amongFirst isCall s n
+
+taken-next : (s : Sheet) (n : ℕ) (σ σ′ : State) → CountsTaken s n σ → after s n ≡ some σ → (x : Next) → nextStep s σ ≡ x → Counted n σ x → stateOf x ≡ some σ′
+    → CountsTaken s (suc n) σ′
+unfolding amongFirst
+taken-next s n σ σ′ p e (finished v) q c f = clash (cc)
+taken-next s n σ σ′ p e storeFull q c f = clash (cc)
+taken-next s n σ σ′ p e stackFull q c f = clash (cc)
+taken-next s n σ σ′ p e lacking q c f = clash (cc)
+taken-next s n σ σ′ p e (step a τ) q (moves m) f = go a (one isCreation) (one isReturn) (one isCall) counts
+  where
+    -- what the step adds
+    one : (test : Action → Bool) → oneFrom test s (after s n) ≡ cond (test a) 1 0
+    one test = ap (oneFrom test s) e ∙ ap (oneIf test) q
+
+    same : τ ≡ σ′
+    same = cc
+
+    counts : tallyOf (suc n) σ′ ≡ counted a (tallyOf n σ)
+    counts = ap (tallyOf (suc n)) (sym same) ∙ m
+
+    go : (a : Action) → oneFrom isCreation s (after s n) ≡ cond (isCreation a) 1 0 → oneFrom isReturn s (after s n) ≡ cond (isReturn a) 1 0
+        → oneFrom isCall s (after s n) ≡ cond (isCall a) 1 0 → tallyOf (suc n) σ′ ≡ counted a (tallyOf n σ) → CountsTaken s (suc n) σ′
+    go (creates c kept) x y z t = record { objects = omega (arith, p .objects, ap objectsOf t); frames = omega (arith, p .frames, ap framesOf t) }
+    go (calls receiver value) x y z t = record { objects = omega (arith, p .objects, ap objectsOf t); frames = omega (arith, p .frames, ap framesOf t) }
+    go (returns v) x y z t = record { objects = omega (arith, p .objects, ap objectsOf t); frames = omega (arith, p .frames, ap framesOf t) }
+    go works x y z t = record { objects = omega (arith, p .objects, ap objectsOf t); frames = omega (arith, p .frames, ap framesOf t) }
+
+pub counts-taken : (s : Sheet) (n : ℕ) (σ : State) → after s n ≡ some σ → CountsTaken s n σ
+unfolding after amongFirst
+counts-taken s zero σ e =
+    let same : start s ≡ σ = cc in
+    subst (CountsTaken s 0) same (record { objects = refl; frames = refl })
+counts-taken s (suc n) σ e = go (after s n) refl (counts-taken s n) e
+  where
+    go : (x : Option State) → after s n ≡ x → ((τ : State) → x ≡ some τ → CountsTaken s n τ) → stepFrom s x ≡ some σ → CountsTaken s (suc n) σ
+    go none p earlier q = clash (cc)
+    go (some τ) p earlier q = taken-next s n τ σ (earlier τ refl) p (nextStep s τ) refl (tally-next s n τ) q
 
 -- the run: what its outcome says of the state that it left
 

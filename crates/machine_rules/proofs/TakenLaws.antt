@@ -86,7 +86,7 @@ module _ (s : Sheet) (σ : State) where
   left-none e = ap (codeStep s σ) e
 
   pub take-return : (f : Frame) (fs : List Frame) → σ .top .code ≡ [] → σ .below ≡ f ∷ fs
-      → nextStep s σ ≡ step returns (record { objects = σ .objects; top = filled f (lastOf (σ .top .slots)); below = fs })
+      → nextStep s σ ≡ step (returns (lastOf (σ .top .slots))) (record { objects = σ .objects; top = filled f (lastOf (σ .top .slots)); below = fs })
   unfolding returnStep
   take-return f fs e below = left-none e ∙ ap (returnStep σ) below
 

@@ -11,12 +11,12 @@ use Rattle.sheet_rules.specs.Limits.{storeLimit, stackLimit}
 use Rattle.sheet_rules.specs.Sheet.{Instr, new, call, get, put, copy, Part, init, body, Sheet, formAt, rowOfForm}
 use Rattle.machine_rules.specs.State.{Object, Frame, State, frameCount, objectAt, made, lastOf, filled, past}
 
--- what a step does that can move authority: it makes object c with kept values; calls a receiver with an argument; returns;
--- or none of these (The machine)
+-- what a step does that can move authority: it makes object c with kept values; calls a receiver with an argument; returns a
+-- value; or none of these (The machine)
 pub data Action : Type 0 where
   creates : ℕ → List ℕ → Action
   calls : ℕ → ℕ → Action
-  returns : Action
+  returns : ℕ → Action
   works : Action
 
 -- what comes next: the end, with main's value; a step that can be taken; one that a full store or a full stack stops; or none,
@@ -126,7 +126,7 @@ instrStep s σ (copy v) is = step works (movedOn (σ .objects) σ is (getD (σ .
 unfoldable pub returnStep : State → List Frame → Next
 returnStep σ [] = finished (lastOf (σ .top .slots))
 returnStep σ (f ∷ fs) =
-    step returns (record { objects = σ .objects; top = filled f (lastOf (σ .top .slots)); below = fs })
+    step (returns (lastOf (σ .top .slots))) (record { objects = σ .objects; top = filled f (lastOf (σ .top .slots)); below = fs })
 
 -- the step of what is left of the top frame's code (The machine)
 unfoldable pub codeStep : Sheet → State → List Instr → Next

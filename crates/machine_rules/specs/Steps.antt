@@ -1,5 +1,6 @@
 -- The state after n steps, and the run within a budget (document 01, The machine). Stands on Step.
-use Prim.Native.Nat.{ℕ, zero, suc, pred}
+use Prim.Native.Nat.{ℕ, zero, suc, pred, _+_}
+use mathlib.Core.Bool.{Bool, true, false, cond}
 use mathlib.Core.List.{List}
 use mathlib.Core.Option.{Option, none, some}
 use lib.ListN.{length}
@@ -34,6 +35,47 @@ unfoldable pub after : Sheet → ℕ → Option State
 after s zero = some (start s)
 after s (suc n) = stepFrom s (after s n)
 
+-- COUNTING STEPS
+
+-- a step makes an object (The machine)
+abbrev pub isCreation : Action → Bool
+isCreation (creates c kept) = true
+isCreation (calls receiver argument) = false
+isCreation (returns v) = false
+isCreation works = false
+
+-- a step is a call (The machine)
+abbrev pub isCall : Action → Bool
+isCall (creates c kept) = false
+isCall (calls receiver argument) = true
+isCall (returns v) = false
+isCall works = false
+
+-- a step is a return (The machine)
+abbrev pub isReturn : Action → Bool
+isReturn (creates c kept) = false
+isReturn (calls receiver argument) = false
+isReturn (returns v) = true
+isReturn works = false
+
+-- 1 for a step that passes a test, and 0 where there is no step or none that passes (The machine)
+abbrev pub oneIf : (Action → Bool) → Next → ℕ
+oneIf test (finished v) = 0
+oneIf test (step a σ) = cond (test a) 1 0
+oneIf test storeFull = 0
+oneIf test stackFull = 0
+oneIf test lacking = 0
+
+-- the same for the step from a state that may be there (The machine)
+abbrev pub oneFrom : (Action → Bool) → Sheet → Option State → ℕ
+oneFrom test s none = 0
+oneFrom test s (some σ) = oneIf test (nextStep s σ)
+
+-- how many of the first n steps pass a test (The machine)
+unfoldable pub amongFirst : (Action → Bool) → Sheet → ℕ → ℕ
+amongFirst test s zero = 0
+amongFirst test s (suc n) = amongFirst test s n + oneFrom test s (after s n)
+
 -- THE TALLY
 
 -- three counts as a tally (The machine)
@@ -64,12 +106,11 @@ returned t = record { steps = suc (t .steps); objects = t .objects; frames = pre
 abbrev pub worked : Tally → Tally
 worked t = record { steps = suc (t .steps); objects = t .objects; frames = t .frames }
 
--- one step more: a creation adds an object, a call a frame, and a return takes one away, so that the number of objects is the
--- creations taken, and the number of frames one plus calls less returns (StepsLaws.tally-next) (The machine)
+-- one step more: a creation adds an object, a call a frame, and a return takes one away (The machine)
 abbrev pub counted : Action → Tally → Tally
 counted (creates c kept) t = created t
 counted (calls receiver argument) t = called t
-counted returns t = returned t
+counted (returns v) t = returned t
 counted works t = worked t
 
 -- THE RUN

@@ -1,11 +1,21 @@
--- When a next step is stopped (document 01, The machine): by the code of the top frame and the counts. Stands on State.
+-- When a state is finished, and when its next step is stopped (document 01, The machine): by the top frame and the counts.
+-- Stands on State.
 use Prim.Native.Nat.{ℕ}
 use mathlib.Core.Path.{_≡_}
-use mathlib.Core.List.{List, _∷_}
+use mathlib.Core.List.{List, [], _∷_}
+use mathlib.Core.Option.{none}
 use lib.ListN.{length}
 use Rattle.sheet_rules.specs.Limits.{storeLimit, stackLimit}
 use Rattle.sheet_rules.specs.Sheet.{Instr, new, call}
-use Rattle.machine_rules.specs.State.{State, frameCount}
+use Rattle.machine_rules.specs.State.{Frame, State, frameCount}
+
+-- a frame is main's: it alone has no receiver (The machine)
+abbrev pub IsMains : Frame → Type 0
+IsMains f = f .own ≡ none
+
+-- the top frame is main's, and has no instruction left (The machine)
+abbrev pub AtEnd : State → Type 0
+AtEnd σ = IsMains (σ .top) × (σ .top .code ≡ [])
 
 -- the next instruction is a `new` (The machine)
 pub data BeginsWithNew : List Instr → Type 0 where

@@ -78,8 +78,8 @@ module _ (w : List ℕ) (t : Top) (k : Tally) (r : Running w t k) (ended : t .en
       return-took t′ et =
           subst (λ (x : Top). Took w t k w′ x (returned k)) (sym et)
           (record {
-            action = returns;
-            next = take-return (sheetIn w) (stateIn (sheetIn w) w t k) (frameFrom w d (topIn w d)) (belowIn w d) (code-end w (t .next) (t .end) ended) below-are ∙ ap (step returns) left;
+            action = returns (lastOf (slotsIn w (pred (k .frames)) (t .filled)));
+            next = take-return (sheetIn w) (stateIn (sheetIn w) w t k) (frameFrom w d (topIn w d)) (belowIn w d) (code-end w (t .next) (t .end) ended) below-are ∙ ap (step (returns (lastOf (slotsIn w (pred (k .frames)) (t .filled))))) left;
             only = only;
             ending =
                 record {

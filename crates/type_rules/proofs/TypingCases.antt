@@ -143,6 +143,7 @@ cases =
     -- a pure row's form has a field, or keeps a resource row
     ∷ gives (with 3 "type=0,2") 8 12
     ∷ gives (with 24 "keep=1") 8 24
+    ∷ gives ("types=2" ∷ "type=0,0" ∷ "type=0,2" ∷ "def=1,0,0" ∷ "var=2,0" ∷ "forms=1" ∷ "form=1,1" ∷ "keep=0" ∷ "body=1" ∷ "copy=1" ∷ "init=0" ∷ "main=1" ∷ "new=0" ∷ []) 8 7
     -- no such method, a field called, no such field, a method read or set, a field in main
     ∷ gives (with 22 "call=1,3,3") 9 22
     ∷ gives (with 22 "call=1,1,3") 9 22
@@ -161,6 +162,8 @@ cases =
     -- a body's result, on its last instruction's line
     ∷ gives (with 28 "copy=3") 10 28
     ∷ gives (with 17 "copy=0") 10 17
+    -- no such part comes before a misfit of the body's result on the same line
+    ∷ gives ("types=3" ∷ "type=0,0" ∷ "type=1,1" ∷ "var=1,0" ∷ "type=1,1" ∷ "def=1,0,1" ∷ "forms=1" ∷ "form=2,0" ∷ "body=1" ∷ "get=9" ∷ "main=1" ∷ "new=0" ∷ []) 9 10
     -- the first line at fault; and the whole sheet is read before any line is typed
     ∷ gives (withLine 34 "get=1" (with 24 "keep=1")) 8 24
     ∷ gives (withLine 34 "call=9,1,1" (with 24 "keep=1")) 7 34

@@ -3,6 +3,7 @@
 mod authority;
 mod authority_edges;
 mod common;
+mod documents;
 mod fit;
 mod linked;
 mod memory;

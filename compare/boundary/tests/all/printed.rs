@@ -4,11 +4,17 @@ use crate::common::CLERK;
 use std::io::Write;
 use std::path::Path;
 use std::process::{Command, Stdio};
+use std::time::Duration;
 
 const PROGRAM: &str = concat!(env!("CARGO_MANIFEST_DIR"), "/../../target/bin/sheet_report");
 
 /// What the program prints for a text on its standard input.
 fn printed(text: &[u8]) -> String {
+    printed_in(&[text])
+}
+
+/// What it prints for a text that comes in pieces, with a pause after each.
+fn printed_in(pieces: &[&[u8]]) -> String {
     let child = Command::new(PROGRAM)
         .stdin(Stdio::piped())
         .stdout(Stdio::piped())
@@ -19,7 +25,12 @@ fn printed(text: &[u8]) -> String {
         )
     });
     let mut input = child.stdin.take().expect("standard input");
-    input.write_all(text).expect("the whole text is taken");
+    for (i, piece) in pieces.iter().enumerate() {
+        if i > 0 {
+            std::thread::sleep(Duration::from_millis(1));
+        }
+        input.write_all(piece).expect("the whole text is taken");
+    }
     drop(input);
     let output = child.wait_with_output().expect("the program ends");
     assert!(output.status.success(), "{}", output.status);
@@ -107,6 +118,21 @@ fn the_paper_s_lines_for_the_clerk() {
     let lines = "verdict=0\nline=0\noutcome=0\nsteps=8\nvalue=0\n\
                  holder=256,1,2\nholder=1,1\nholder=2,1,2\n";
     assert_eq!(printed(CLERK), lines);
+}
+
+/// A pipe gives what was written so far: the program reads on to the end.
+#[test]
+fn a_sheet_that_comes_in_pieces_is_read_whole() {
+    let whole = second::print(CLERK);
+    for cut in [1, 9, CLERK.len() / 2, CLERK.len() - 1] {
+        let (first, last) = CLERK.split_at(cut);
+        assert_eq!(printed_in(&[first, last]), whole, "cut at {cut}");
+    }
+    let bytes: Vec<&[u8]> = CLERK.chunks(1).collect();
+    assert_eq!(printed_in(&bytes), whole, "byte by byte");
+    let long = vec![b'x'; 70_000];
+    let pieces: Vec<&[u8]> = long.chunks(9_000).collect();
+    assert_eq!(printed_in(&pieces), "verdict=2\nline=0\n", "a long text");
 }
 
 /// Each example has its lines stored beside it: one sheet for each outcome,
