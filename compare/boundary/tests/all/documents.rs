@@ -1,7 +1,7 @@
 //! docs/RULES.md names only what exists, and every definition of a rule crate
 //! is used by something.
 
-use std::collections::BTreeMap;
+use std::collections::{BTreeMap, BTreeSet};
 use std::fs;
 use std::path::{Path, PathBuf};
 
@@ -208,6 +208,41 @@ fn every_edit_is_named_and_every_named_edit_is_there() {
     }
     let unnamed: Vec<_> = there.iter().filter(|(_, named)| !**named).collect();
     assert!(unnamed.is_empty(), "{unnamed:?}");
+}
+
+/// A crate and all that it stands on, by crates.txt.
+fn reached(name: &str) -> BTreeSet<String> {
+    let text = fs::read_to_string(format!("{ROOT}/crates.txt")).expect("the crates");
+    let mut reached = BTreeSet::from([String::from(name)]);
+    loop {
+        let before = reached.len();
+        for line in text.lines() {
+            if let Some((krate, named)) = line.split_once(':') {
+                if reached.contains(krate) {
+                    reached.extend(named.split_whitespace().map(String::from));
+                }
+            }
+        }
+        if reached.len() == before {
+            return reached;
+        }
+    }
+}
+
+#[test]
+fn typing_and_machine_stand_on_the_table_and_never_see_the_bytes() {
+    for name in ["typing", "machine", "authority"] {
+        let crates = reached(name);
+        assert!(crates.contains("table"), "{name}");
+        for krate in crates {
+            assert_ne!(krate, "lexer", "{name}");
+            let folder = Path::new(ROOT).join("crates").join(&krate).join("src");
+            for file in files(&folder, &["rt"]) {
+                let text = fs::read_to_string(&file).expect("a source");
+                assert!(!text.contains("[u8]"), "{}", file.display());
+            }
+        }
+    }
 }
 
 /// A definition that nothing uses guards nothing. What counts is a use outside
