@@ -12,12 +12,12 @@ use Rattle.sheet_rules.specs.Sheet.{Sheet}
 use Rattle.sheet_rules.specs.Reading.{readable, meaning}
 use Rattle.type_rules.specs.Typing.{verdict}
 use Rattle.machine_rules.specs.State.{State}
-use Rattle.machine_rules.specs.Step.{Action, creates, calls, returns, works, step, storeFull, nextStep}
+use Rattle.machine_rules.specs.Step.{Action, creates, calls, returns, works, step, nextStep}
 use Rattle.machine_rules.specs.Steps.{after}
-use Rattle.machine_rules.specs.Stopped.{NoPlace}
+use Rattle.machine_rules.specs.Stopped.{AtEnd, NoPlace, NoFrame}
 use Rattle.authority_rules.specs.Authority.{isResource, holderOf, topHolder, holds}
 use Rattle.authority_rules.specs.Gain.{Gain, maker, itself, endowed, argument, result}
-use Rattle.authority_rules.specs.Guarantee.{Guarantee, Guaranteed}
+use Rattle.authority_rules.specs.Guarantee.{Finished, CanStep, Stopped, OneOf, first, second, third, Guarantee, Guaranteed}
 
 -- FROM GAIN ALONE
 
@@ -78,13 +78,25 @@ module _ (g : Guaranteed) (text : List ℕ) (s : Sheet) (read : meaning text ≡
   state : Guarantee s σ
   state = g text s read accepted n σ reached
 
-  -- a `new` with 256 objects is stopped
-  pub full-store-stops : NoPlace σ → nextStep s σ ≡ storeFull
-  full-store-stops p = state .stoppedByStore .1 p
+  -- main's code at its end, a `new` with 256 objects and a `call` with 64 frames have no step that can be taken
+  pub no-step : AtEnd σ ⊎ (NoPlace σ ⊎ NoFrame σ) → CanStep s σ → ⊥
+  no-step (inl e) c = state .next .not-first-second (state .finishes .1 e) c
+  no-step (inr (inl p)) c = state .next .not-second-third c (inl (state .stoppedByStore .1 p))
+  no-step (inr (inr f)) c = state .next .not-second-third c (inr (state .stoppedByStack .1 f))
 
-  -- and nothing else is stopped by a full store
-  pub stopped-store-full : nextStep s σ ≡ storeFull → NoPlace σ
-  stopped-store-full e = state .stoppedByStore .0 e
+  -- and every other state has one
+  pub else-steps : (AtEnd σ → ⊥) → (NoPlace σ → ⊥) → (NoFrame σ → ⊥) → CanStep s σ
+  else-steps e p f = go (state .next .one)
+    where
+      go : OneOf (Finished s σ) (CanStep s σ) (Stopped s σ) → CanStep s σ
+      go (first x) = absurd (e (state .finishes .0 x))
+      go (second x) = x
+      go (third (inl x)) = absurd (p (state .stoppedByStore .0 x))
+      go (third (inr x)) = absurd (f (state .stoppedByStack .0 x))
+
+  -- a finished state is not stopped
+  pub finished-not-stopped : Finished s σ → Stopped s σ → ⊥
+  finished-not-stopped = state .next .not-first-third
 
   module _ (a : Action) (σ′ : State) (e : nextStep s σ ≡ step a σ′) (h b : ℕ) (now : T (holds s σ′ h b)) where
     -- held before, or a gain

@@ -81,8 +81,14 @@ impl Cell<'_> {
         self.faults.push(format!("{item} ({})", self.row));
     }
 
-    /// `crate`, `crate::path::name` or `name` of the last crate.
+    /// `crate`, `crate::path::name`, `name` of the last crate, or a file.
     fn code(&mut self, path: &str) {
+        if path.contains('.') || path.contains('/') {
+            if !Path::new(ROOT).join(path).exists() {
+                self.fault(path);
+            }
+            return;
+        }
         let parts: Vec<&str> = path.split("::").collect();
         if is_crate(parts[0]) {
             self.krate = parts[0].into();
@@ -113,7 +119,9 @@ impl Cell<'_> {
         !names_in(&self.krate, name).is_empty()
     }
 
+    /// What stands after `in` is a test, in words.
     fn walk(&mut self, cell: &str) {
+        let cell = cell.split("in `compare").next().unwrap_or(cell);
         for piece in cell.split([',', ';', '(', ')']) {
             let mut piece = piece.trim();
             for (letter, krate) in RULES {
