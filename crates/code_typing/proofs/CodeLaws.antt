@@ -15,7 +15,8 @@ use Rattle.lists.proofs.Tests.{clash}
 use Rattle.sheet_rules.specs.declared.Reason.{Reason}
 use Rattle.sheet_rules.specs.Sheet.{Instr, copy, Sheet}
 use Rattle.sheet_rules.specs.WellFormed.{WellFormed}
-use Rattle.type_rules.specs.Typing.{Fault, Own, firstOf, instrFault, resultFault, slotRow, instrFaults}
+use Rattle.type_rules.specs.Typing.{Fault, Own, firstOf, instrFault, resultFault, slotRow, slotRows, instrFaults}
+use Rattle.type_rules.proofs.TypingLaws.{result-row}
 use Rattle.table.specs.Layout.{fitAddress, slotRowAddress, workSize}
 use Rattle.table.specs.View.{cell, instrIn, instrsIn, sheetIn}
 use Rattle.table.specs.Told.{slotRowsIn}
@@ -26,7 +27,7 @@ use Rattle.instr_typing.specs.declared.InstrJudged.{InstrJudged}
 use Rattle.instr_typing.specs.Told.{judgedOf}
 use Rattle.code_typing.specs.declared.Walked.{Walked}
 use Rattle.code_typing.specs.Walk.{walk}
-use Rattle.code_typing.specs.Told.{lastFault, lineJudged, stoppedAt, OnlySlots, LinesJudged, codeFaults}
+use Rattle.code_typing.specs.Told.{lastFault, lineJudged, stoppedAt, OnlySlots, CodeJudged, codeFaults, codeSlotRows}
 use Rattle.code_typing.proofs.WalkLaws.{walk-none, walk-good, walk-bad}
 
 -- what a change of slots' rows leaves as it was
@@ -75,12 +76,19 @@ module _ (own : Own) (wanted : Option ℕ) (filled start count first : ℕ) (w�
   abbrev faults : List ℕ → List Instr → List Fault
   faults rows is = instrFaults (tells w₀) (sheetIn w₀) own wanted rows is
 
+  abbrev slotsFrom : List ℕ → List Instr → List ℕ
+  slotsFrom rows is = slotRows (sheetIn w₀) own rows is
+
+  abbrev Judged : List ℕ → Walked → Type 0
+  Judged w r = CodeJudged (codeFaults w₀ own wanted filled start count) (codeSlotRows w₀ own filled start count) first w₀ w r
+
   -- where the loop stands
   pub record CodeGoing (w : List ℕ) (j line : ℕ) : Type 0 where
     pub within : j ≤ count
     pub only : OnlySlots w₀ w
     pub lined : line ≡ first + j
     pub same : walk line (faults (slotRowsIn w (filled + j)) (drop j code)) ≡ walk first (codeFaults w₀ own wanted filled start count)
+    pub slots : slotsFrom (slotRowsIn w (filled + j)) (drop j code) ≡ codeSlotRows w₀ own filled start count
 
   pub code-start : CodeGoing w₀ 0 first
   code-start =
@@ -90,24 +98,32 @@ module _ (own : Own) (wanted : Option ℕ) (filled start count first : ℕ) (w�
         lined = omega arith;
         same =
             ap (λ (k : ℕ). walk first (instrFaults (tells w₀) (sheetIn w₀) own wanted (slotRowsIn w₀ k) (instrsIn w₀ start count))) none-more;
+        slots = ap (λ (k : ℕ). slotsFrom (slotRowsIn w₀ k) code) none-more;
       }
     where
       none-more : filled + 0 ≡ filled
       none-more = omega arith
 
   module _ (w : List ℕ) (j line : ℕ) (g : CodeGoing w j line) where
-    pub code-end : count ≤ j → LinesJudged (codeFaults w₀ own wanted filled start count) first w₀ w (Walked.On line)
+    none-left : count ≤ j → drop j code ≡ []
+    none-left l = let past : length code ≤ j = omega (arith, code-length) in drop-of-length-le code past
+
+    slots-all : count ≤ j → slotRowsIn w (filled + j) ≡ codeSlotRows w₀ own filled start count
+    unfolding slotRows
+    slots-all l = sym (ap (slotsFrom (slotRowsIn w (filled + j))) (none-left l)) ∙ g .slots
+
+    pub code-end : count ≤ j → Judged w (Walked.On line)
     unfolding instrFaults
     code-end l =
         record {
-          told =
-              sym (walk-none line)
-              ∙ sym (ap (λ (is : List Instr). walk line (faults (slotRowsIn w (filled + j)) is)) (drop-of-length-le code past)) ∙ g .same;
-          only = g .only;
+          lines = record {
+            told =
+                sym (walk-none line)
+                ∙ sym (ap (λ (is : List Instr). walk line (faults (slotRowsIn w (filled + j)) is)) (none-left l)) ∙ g .same;
+            only = g .only;
+          };
+          slots = λ n e. ap (slotRowsIn w) (sym (ap length (slots-all l)) ∙ length-tab (λ v. cell w (slotRowAddress v)) (filled + j)) ∙ slots-all l;
         }
-      where
-        past : length code ≤ j
-        past = omega (arith, code-length)
 
     module _ (l : j < count) (judged : InstrJudged) (last : Bool) (last-is : last ≡ eqb (j + 1) count)
         (told : judged ≡ lineJudged w own wanted (filled + j) (instrIn w (start + j)) last) where
@@ -162,18 +178,33 @@ module _ (own : Own) (wanted : Option ℕ) (filled start count first : ℕ) (w�
 
       walk-here : walk line (fault ∷ faults (rows ++ (row ∷ [])) rest) ≡ walk first (codeFaults w₀ own wanted filled start count)
       unfolding rows instr row fault rest instrFaults
-      walk-here = sym (ap (λ (is : List Instr). walk line (faults (slotRowsIn w (filled + j)) is)) next-here) ∙ g .same
+      walk-here =
+          ap (λ (f : Fault). walk line (firstOf (instrFault (tells w₀) (sheetIn w₀) own rows instr) f ∷ faults (rows ++ (row ∷ [])) rest))
+          (sym (result-row (tells w₀) (sheetIn w₀) own wanted rows instr rest))
+          ∙ sym (ap (λ (is : List Instr). walk line (faults (slotRowsIn w (filled + j)) is)) next-here) ∙ g .same
 
-      pub code-stop : (q : Reason) → judged ≡ InstrJudged.Refused q → (v : Walked) → v ≡ stoppedAt judged line
-          → LinesJudged (codeFaults w₀ own wanted filled start count) first w₀ w v
+      slots-here : slotsFrom (rows ++ (row ∷ [])) rest ≡ codeSlotRows w₀ own filled start count
+      unfolding rows instr row rest slotRows
+      slots-here = sym (ap (slotsFrom (slotRowsIn w (filled + j))) next-here) ∙ g .slots
+
+      pub code-stop : (q : Reason) → judged ≡ InstrJudged.Refused q → (v : Walked) → v ≡ stoppedAt judged line → Judged w v
       code-stop q e v ev =
           record {
-            told =
-                ev ∙ ap (λ (x : InstrJudged). stoppedAt x line) e ∙ walk-bad line q (faults (rows ++ (row ∷ [])) rest)
-                ∙ ap (λ (f : Fault). walk line (f ∷ faults (rows ++ (row ∷ [])) rest)) (go fault (sym judged-rule ∙ e)) ∙ walk-here;
-            only = g .only;
+            lines = record {
+              told =
+                  stops ∙ walk-bad line q (faults (rows ++ (row ∷ [])) rest)
+                  ∙ ap (λ (f : Fault). walk line (f ∷ faults (rows ++ (row ∷ [])) rest)) (go fault (sym judged-rule ∙ e)) ∙ walk-here;
+              only = g .only;
+            };
+            slots = λ n on. no-way n (sym stops ∙ on);
           }
         where
+          stops : v ≡ Walked.Stopped q line
+          stops = ev ∙ ap (λ (x : InstrJudged). stoppedAt x line) e
+
+          no-way : (n : ℕ) {A : Type 0} → Walked.Stopped q line ≡ Walked.On n → A
+          no-way n c = clash (cc)
+
           go : (f : Fault) → judgedOf f row ≡ InstrJudged.Refused q → some q ≡ f
           go none e = clash (cc)
           go (some r) e = cc
@@ -191,6 +222,7 @@ module _ (own : Own) (wanted : Option ℕ) (filled start count first : ℕ) (w�
                 ap₂ (λ (xs : List ℕ) (k : ℕ). walk (line + 1) (faults xs (drop k code))) rows-then (add-one j)
                 ∙ walk-good line (faults (rows ++ (row ∷ [])) rest)
                 ∙ ap (λ (f : Fault). walk line (f ∷ faults (rows ++ (row ∷ [])) rest)) (no-fault fault (sym judged-rule ∙ e)) ∙ walk-here;
+            slots = ap₂ (λ (xs : List ℕ) (k : ℕ). slotsFrom xs (drop k code)) rows-then (add-one j) ∙ slots-here;
           }
         where
           no-fault : (f : Fault) → judgedOf f row ≡ InstrJudged.Good r → none ≡ f

@@ -4,8 +4,9 @@ use mathlib.Core.Path.{_≡_}
 use mathlib.Core.Bool.{Bool, true, false}
 use mathlib.Core.List.{List, []}
 use mathlib.Core.Option.{Option, none}
+use lib.ListN.{length}
 use Rattle.sheet_rules.specs.Sheet.{Instr}
-use Rattle.type_rules.specs.Typing.{Fault, firstOf, instrFault, resultFault, slotRow, Own, instrFaults}
+use Rattle.type_rules.specs.Typing.{Fault, firstOf, instrFault, resultFault, slotRow, slotRows, Own, instrFaults}
 use Rattle.table.specs.Layout.{slotRowAddress}
 use Rattle.table.specs.Only.{Only}
 use Rattle.table.specs.Told.{slotRowsIn}
@@ -44,7 +45,15 @@ pub record LinesJudged (faults : List Fault) (line : ℕ) (w w′ : List ℕ) (r
   pub told : r ≡ walk line faults
   pub only : OnlySlots w w′
 
--- the lines of a body or of main, after so many filled slots
+-- the lines of a body or of main, judged so; and where none is at fault, the table holds the rows of all its slots
+pub record CodeJudged (faults : List Fault) (rows : List ℕ) (line : ℕ) (w w′ : List ℕ) (r : Walked) : Type 0 where
+  pub lines : LinesJudged faults line w w′ r
+  pub slots : (n : ℕ) → r ≡ Walked.On n → slotRowsIn w′ (length rows) ≡ rows
+
+-- the lines of a body or of main, after `filled` slots, and the rows of all its slots
 abbrev pub codeFaults : List ℕ → Own → Option ℕ → (filled start count : ℕ) → List Fault
 codeFaults w own wanted filled start count =
     instrFaults (tells w) (sheetIn w) own wanted (slotRowsIn w filled) (instrsIn w start count)
+
+abbrev pub codeSlotRows : List ℕ → Own → (filled start count : ℕ) → List ℕ
+codeSlotRows w own filled start count = slotRows (sheetIn w) own (slotRowsIn w filled) (instrsIn w start count)

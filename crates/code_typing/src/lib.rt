@@ -5,7 +5,7 @@ ghost use lib.Dec.{eqb};
 ghost use Rattle.table.specs.View.{instrIn};
 ghost use Rattle.table.specs.Whole.{Whole};
 ghost use Rattle.instr_typing.specs.Told.{rowFound};
-ghost use Rattle.code_typing.specs.Told.{lineJudged, stoppedAt, LinesJudged, codeFaults};
+ghost use Rattle.code_typing.specs.Told.{lineJudged, stoppedAt, CodeJudged, codeFaults, codeSlotRows};
 use instr_typing::FoundRow;
 use instr_typing::InstrJudged;
 use sheet_rules::Reason;
@@ -59,7 +59,7 @@ fn stopped(judged: InstrJudged, line: u32) -> Walked
     }
 }
 
-// The instructions from place `start` of the pool on, in a body or in main, where so many slots are filled.
+// `count` instructions of a body or of main, from place `start` of the pool on; their slots' rows are put after the first `filled`.
 pub fn judge_code(
     work: &mut [u16],
     own: FoundRow,
@@ -70,7 +70,7 @@ pub fn judge_code(
     first: u32,
 ) -> Walked
     requires { ⌜ Whole (now work) × (filled + count ≤ 64) × (first ≤ 1000000) ⌝ }
-    ensures { λ r. ⌜ LinesJudged (codeFaults (now (work .entry)) (rowFound own) (rowFound wanted) filled start count) first (now (work .entry)) (now (work .exit)) r ⌝ }
+    ensures { λ r. ⌜ CodeJudged (codeFaults (now (work .entry)) (rowFound own) (rowFound wanted) filled start count) (codeSlotRows (now (work .entry)) (rowFound own) filled start count) first (now (work .entry)) (now (work .exit)) r ⌝ }
 {
     let mut j = 0;
     let mut line = first;

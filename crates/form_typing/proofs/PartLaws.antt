@@ -13,7 +13,7 @@ use Rattle.sheet_rules.specs.declared.Member.the-variants.{Method, Field}
 use Rattle.sheet_rules.specs.declared.Reason.the-variants.{Misfit}
 use Rattle.sheet_rules.specs.Sheet.{Instr, Part, init, body, Sheet, formAt}
 use Rattle.sheet_rules.specs.WellFormed.{PartOf, WellFormedBody}
-use Rattle.type_rules.specs.Typing.{Fault, unless, bodyRows, instrFaults, partFaults}
+use Rattle.type_rules.specs.Typing.{Fault, unless, slotRows, bodyRows, instrFaults, partFaults}
 use Rattle.table.specs.Layout.{slotRowAddress}
 use Rattle.table.specs.View.{instrIn, instrsIn, partIn, sheetIn}
 use Rattle.table.specs.declared.forms.PartPlace.{PartPlace}
@@ -22,19 +22,20 @@ use Rattle.table.proofs.ViewLaws.{only-refl, only-trans}
 use Rattle.fit.specs.Told.{tells}
 use Rattle.code_typing.specs.declared.Walked.{Walked}
 use Rattle.code_typing.specs.Walk.{walk}
-use Rattle.code_typing.specs.Told.{OnlySlots, LinesJudged, codeFaults}
+use Rattle.code_typing.specs.Told.{OnlySlots, LinesJudged, CodeJudged, codeFaults, codeSlotRows}
 use Rattle.code_typing.proofs.WalkLaws.{walk-none, walk-good, walk-bad}
 use Rattle.code_typing.proofs.CodeLaws.{slots-sheet, slots-instr, slots-tells}
-use Rattle.form_typing.specs.Told.{SlotsFilled, PlaceSmall, an-init, a-body, bodyFaults, partFaultsIn}
+use Rattle.form_typing.specs.Told.{SlotsFilled, PlaceSmall, an-init, a-body, bodyFaults, bodySlotRows, partFaultsIn}
 
--- a body's lines, after its slots were put in place
+-- a body's lines and slots, after its first slots were put in place
 pub body-judged : (f argument result start count line : ℕ) (w : List ℕ) (row : ℕ) → row ≡ (formAt (sheetIn w) f) .row → (w₁ : List ℕ) (filled : ℕ) → SlotsFilled f argument w w₁ filled
     → (count′ : ℕ) → count′ ≡ count → (w′ : List ℕ) (r : Walked)
-    → LinesJudged (codeFaults w₁ (some row) (some result) filled start count′) (line + 1) w₁ w′ r → LinesJudged (bodyFaults w f argument result start count) line w w′ r
+    → CodeJudged (codeFaults w₁ (some row) (some result) filled start count′) (codeSlotRows w₁ (some row) filled start count′) (line + 1) w₁ w′ r
+    → CodeJudged (bodyFaults w f argument result start count) (bodySlotRows w f argument start count) line w w′ r
 body-judged f argument result start count line w row row-is w₁ filled s count′ ec w′ r k =
     record {
-      told = k .told ∙ ap (walk (line + 1)) faults ∙ walk-good line _;
-      only = only-trans (s .only) (k .only);
+      lines = record { told = k .lines .told ∙ ap (walk (line + 1)) faults ∙ walk-good line _; only = only-trans (s .only) (k .lines .only) };
+      slots = λ n e. subst (λ (rows : List ℕ). slotRowsIn w′ (length rows) ≡ rows) rows-are (k .slots n e);
     }
   where
     faultsOf : (ℕ → ℕ → Bool) → Sheet → ℕ → List ℕ → List Instr → List Fault
@@ -48,6 +49,12 @@ body-judged f argument result start count line w row row-is w₁ filled s count�
     faults : codeFaults w₁ (some row) (some result) filled start count′
         ≡ instrFaults (tells w) (sheetIn w) (some ((formAt (sheetIn w) f) .row)) (some result) (bodyRows (formAt (sheetIn w) f) argument) (instrsIn w start count)
     faults = λ x. faultsOf (slots-tells w w₁ (s .only) x) (slots-sheet w w₁ (s .only) x) (row-is x) (s .rows x) (instrs x)
+
+    slotsOf : Sheet → ℕ → List ℕ → List Instr → List ℕ
+    slotsOf x a rows is = slotRows x (some a) rows is
+
+    rows-are : codeSlotRows w₁ (some row) filled start count′ ≡ bodySlotRows w f argument start count
+    rows-are = λ x. slotsOf (slots-sheet w w₁ (s .only) x) (row-is x) (s .rows x) (instrs x)
 
 -- a part, by its member and its place
 module _ (f line : ℕ) (w : List ℕ) (m : Member) (p : PartPlace) where

@@ -6,7 +6,7 @@ use mathlib.Core.Option.{none, some}
 use lib.ListN.{length, getD}
 use Rattle.sheet_rules.specs.declared.Member.{Member}
 use Rattle.sheet_rules.specs.Sheet.{Part, Form, formAt, rowAt}
-use Rattle.type_rules.specs.Typing.{Fault, membersAt, bodyRows, instrFaults, partFaults, partsFaults, keepFaults, formFaults}
+use Rattle.type_rules.specs.Typing.{Fault, membersAt, slotRows, bodyRows, instrFaults, partFaults, partsFaults, keepFaults, formFaults}
 use Rattle.table.specs.Layout.{slotRowAddress}
 use Rattle.table.specs.View.{cell, instrsIn, sheetIn}
 use Rattle.table.specs.declared.forms.PartPlace.{PartPlace}
@@ -25,10 +25,14 @@ pub data PlaceSmall : PartPlace → Type 0 where
   an-init : {k : ℕ} → PlaceSmall (PartPlace.Init k)
   a-body : {start count : ℕ} → count ≤ 32 → PlaceSmall (PartPlace.Body start count)
 
--- the lines of a body of form f
+-- the lines of a body of form f, and the rows of all its slots
 abbrev pub bodyFaults : List ℕ → ℕ → (argument result start count : ℕ) → List Fault
 bodyFaults w f argument result start count =
     none ∷ instrFaults (tells w) (sheetIn w) (some ((formAt (sheetIn w) f) .row)) (some result) (bodyRows (formAt (sheetIn w) f) argument) (instrsIn w start count)
+
+abbrev pub bodySlotRows : List ℕ → ℕ → (argument start count : ℕ) → List ℕ
+bodySlotRows w f argument start count =
+    slotRows (sheetIn w) (some ((formAt (sheetIn w) f) .row)) (bodyRows (formAt (sheetIn w) f) argument) (instrsIn w start count)
 
 -- the lines of a part of form f for a member, of all its parts, of its `keep` lines, and all its lines
 abbrev pub partFaultsIn : List ℕ → ℕ → Member → PartPlace → List Fault

@@ -11,8 +11,8 @@ ghost use Rattle.table.specs.View.{sheetIn};
 ghost use Rattle.table.specs.Whole.{Whole};
 ghost use Rattle.fit.specs.Told.{tells};
 ghost use Rattle.code_typing.specs.Walk.{walk};
-ghost use Rattle.code_typing.specs.Told.{LinesJudged};
-ghost use Rattle.form_typing.specs.Told.{KeepsPut, SlotsFilled, PlaceSmall, bodyFaults, partFaultsIn, partsFaultsIn, keepFaultsIn, formFaultsIn};
+ghost use Rattle.code_typing.specs.Told.{LinesJudged, CodeJudged};
+ghost use Rattle.form_typing.specs.Told.{KeepsPut, SlotsFilled, PlaceSmall, bodyFaults, bodySlotRows, partFaultsIn, partsFaultsIn, keepFaultsIn, formFaultsIn};
 use code_typing::Walked;
 use instr_typing::FoundRow;
 use sheet_rules::Kind;
@@ -58,7 +58,7 @@ fn judge_body(
     line: u32,
 ) -> Walked
     requires { ⌜ Whole (now work) × (count ≤ 32) × (line ≤ 900000) ⌝ }
-    ensures { λ r. ⌜ LinesJudged (bodyFaults (now (work .entry)) f argument result start count) line (now (work .entry)) (now (work .exit)) r ⌝ }
+    ensures { λ r. ⌜ CodeJudged (bodyFaults (now (work .entry)) f argument result start count) (bodySlotRows (now (work .entry)) f argument start count) line (now (work .entry)) (now (work .exit)) r ⌝ }
 {
     let own = table::forms::form_row(work, f);
     let filled = put_slots(work, f, argument);

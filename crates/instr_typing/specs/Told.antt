@@ -37,7 +37,7 @@ getJudged r = judgedOf (getFault r) (rowOr0 r)
 abbrev pub putJudged : (ℕ → ℕ → Bool) → Option ℕ → ℕ → InstrJudged
 putJudged fit r a = judgedOf (putFault fit r a) (rowOr0 r)
 
--- the rule's judgement of an instruction, with the table's word on fit, where so many slots are filled
+-- the rule's judgement of an instruction, with the table's word on fit, where `filled` slots are filled
 abbrev pub instrJudged : List ℕ → Own → ℕ → Instr → InstrJudged
 instrJudged w own filled i =
     judgedOf (instrFault (tells w) (sheetIn w) own (slotRowsIn w filled) i) (slotRow (sheetIn w) own (slotRowsIn w filled) i)

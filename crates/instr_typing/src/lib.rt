@@ -206,7 +206,7 @@ fn judge_put(work: &[u16], own: FoundRow, name: u16, given: u16) -> InstrJudged
     }
 }
 
-// The instruction at place p, in a body whose own object has a row, or in main, where so many slots are filled.
+// The instruction at place p, in a body whose own object has a row, or in main, where `filled` slots are filled.
 pub fn judge_instr(work: &[u16], own: FoundRow, filled: usize, p: usize) -> InstrJudged
     requires { ⌜ (filled ≤ 64) × Whole (now work) ⌝ }
     ensures { λ r. ⌜ r ≡ instrJudged (now (work .entry)) (rowFound own) filled (instrIn (now (work .entry)) p) ⌝ }

@@ -3,7 +3,7 @@
 use Prim.Native.Nat.{ℕ, suc, _≤_, _<_}
 use native.Mathlib.Omega.{arith}
 use native.Mathlib.Decide.{decLe}
-use mathlib.Core.Path.{_≡_, refl, sym, ap, ap₂, subst}
+use mathlib.Core.Path.{_≡_, refl, sym, ap, ap₂, _∙_, subst}
 use mathlib.Core.Bool.{Bool, true, false, cond, _&&_}
 use mathlib.Core.List.{List, [], _∷_, _++_}
 use mathlib.Core.Option.{Option, none, some}
@@ -20,6 +20,7 @@ use Rattle.sheet_rules.specs.Sheet.{Row, Instr, new, call, get, put, copy, Part
 use Rattle.sheet_rules.specs.RowLines.{mentionsBelow}
 use Rattle.sheet_rules.specs.WellFormed.{Mentions, WellFormed}
 use Rattle.type_rules.specs.Typing.{Signature, methodIn, fieldIn, membersAt, Own, ownField, resultOf, rowOr0, slotRow, bodyRows, mainRows, Fault, unless, firstOf, allFit, callFault, putFault, instrFault, resultFault, instrFaults, partFaults, partsFaults, formFault, keepFaults, formFaults, formsFaults, lineFaults}
+use Rattle.type_rules.proofs.TypingLaws.{result-row}
 
 -- what holds of a list's elements, and of what stands in where there is none, holds of all that is looked up
 looked-up : {A : Type 0} (P : A → Type 0) (xs : List A) (d : A) → P d → ((k : ℕ) → k < length xs → P (getD xs k d)) → (k : ℕ) → P (getD xs k d)
@@ -153,7 +154,9 @@ module _ (s : Sheet) (w : WellFormed s) where
     instrs-agree own result p rows all [] = refl
     instrs-agree own result p rows all (i ∷ is) =
         let q : Here (slotRow s own rows i) = slot-here own rows all i in
-        ap₂ _∷_ (ap₂ firstOf (instr-agree own rows all i) (result-agree result (slotRow s own rows i) is p q))
+        ap₂ _∷_
+        (ap₂ firstOf (instr-agree own rows all i)
+        (result-row f s own result rows i is ∙ result-agree result (slotRow s own rows i) is p q ∙ sym (result-row g s own result rows i is)))
         (instrs-agree own result p (rows ++ (slotRow s own rows i ∷ [])) (here-snoc rows all q) is)
 
     module _ (x : Form) (row : Here (x .row)) (keeps : AllHere (x .keeps)) where

@@ -19,9 +19,9 @@ use Rattle.sheet_rules.specs.declared.Verdict.the-variants.{Accepted}
 use Rattle.sheet_rules.specs.Sheet.{Row, Instr, Part, Form, Sheet, rowAt, formAt}
 use Rattle.sheet_rules.specs.WellFormed.{WellFormed}
 use Rattle.type_rules.specs.Fit.{fits}
-use Rattle.type_rules.specs.Typing.{Own, resultOf, rowOr0, slotRow, mainRows, Fault, unless, firstOf, allFit, callFault, getFault, putFault, instrFault, resultFault, instrFaults, partFaults, partsFaults, isPure, hasField, keepFaults, formFaults, formsFaults, lineFaults, firstFault, firstFormLine, typing}
+use Rattle.type_rules.specs.Typing.{Own, resultOf, rowOr0, slotRow, slotRows, lastRow, mainRows, Fault, unless, firstOf, allFit, callFault, getFault, putFault, instrFault, resultFault, instrFaults, partFaults, partsFaults, isPure, hasField, keepFaults, formFaults, formsFaults, lineFaults, firstFault, firstFormLine, typing}
 use Rattle.type_rules.specs.Typed.{SlotFits, InstrTyped, typed-new, typed-call, typed-get, typed-put, typed-copy, ResultFits, undeclared, declared, CodeTyped, end, next, PartTyped, typed-init, typed-body, FormTyped, Typed}
-use Rattle.type_rules.proofs.TypingLaws.{Faultless, lastRow-snoc, accepted-typed}
+use Rattle.type_rules.proofs.TypingLaws.{Faultless, lastRow-snoc, result-row, accepted-typed}
 
 -- LINES
 
@@ -81,7 +81,7 @@ module _ (s : Sheet) where
   last-faultless : {own : Own} {result : Option ℕ} (rows : List ℕ) (a : ℕ) (is : List Instr) → CodeTyped s own result (rows ++ (a ∷ [])) is
       → resultFault (fits (s .rows)) result a is ≡ none
   last-faultless {result = result} rows a [] (end h r) =
-      result-faultless result a (subst (λ (x : ℕ). ResultFits s x result) (lastRow-snoc s rows a) r)
+      result-faultless result a (subst (λ (x : ℕ). ResultFits s x result) (lastRow-snoc rows a) r)
   last-faultless {result = result} rows a (i ∷ is) c = later-faultless result a i is
 
   code-faultless : {own : Own} {result : Option ℕ} {rows : List ℕ} {is : List Instr} → CodeTyped s own result rows is
@@ -91,9 +91,18 @@ module _ (s : Sheet) where
   code-faultless {own} {result} {rows} (next {i = i} {is = is} {a = a} h c) =
       let e = instr-faultless h in
       faultless-cons
-      (ap (λ (x : Fault). firstOf x (resultFault (fits (s .rows)) result (slotRow s own rows i) is)) (e .0)
+      (ap (λ (x : Fault). firstOf x (resultFault (fits (s .rows)) result (lastRow (slotRows s own rows (i ∷ is))) is)) (e .0)
+      ∙ result-row (fits (s .rows)) s own result rows i is
       ∙ ap (λ (x : ℕ). resultFault (fits (s .rows)) result x is) (e .1) ∙ last-faultless rows a is c)
       (subst (λ (x : ℕ). Faultless (instrFaults (fits (s .rows)) s own result (rows ++ (x ∷ [])) is)) (sym (e .1)) (code-faultless c))
+
+  -- the value of a well-typed body, the last of all its slots, fits the declared result
+  pub value-fits : {own : Own} {result : Option ℕ} {rows : List ℕ} {is : List Instr} → CodeTyped s own result rows is
+      → ResultFits s (lastRow (slotRows s own rows is)) result
+  unfolding slotRows
+  value-fits (end h r) = r
+  value-fits {own} {result} {rows} (next {is = is} h c) =
+      subst (λ (x : ℕ). ResultFits s (lastRow (slotRows s own (rows ++ (x ∷ [])) is)) result) (sym (instr-faultless h .1)) (value-fits c)
 
   part-faultless : {f : Form} {m : Member} {p : Part} → PartTyped s f m p → Faultless (partFaults (fits (s .rows)) s f m p)
   part-faultless {f} (typed-init {r = r} {k = k} h) =

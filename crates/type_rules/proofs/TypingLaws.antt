@@ -22,8 +22,8 @@ use Rattle.sheet_rules.specs.FormLines.{allBelow, namesExist}
 use Rattle.sheet_rules.specs.Reading.{Meaning, readable, unreadable}
 use Rattle.sheet_rules.specs.WellFormed.{Scoped, WellFormedBody, PartOf, WellFormedForm, WellFormed}
 use Rattle.type_rules.specs.Fit.{fits}
-use Rattle.type_rules.specs.Typing.{Signature, methodIn, membersAt, Own, ownField, resultOf, rowOr0, slotRow, bodyRows, mainRows, Fault, unless, firstOf, allFit, callFault, getFault, putFault, instrFault, resultFault, instrFaults, partFaults, partsFaults, isPure, hasField, keepFaults, formFaults, formsFaults, lineFaults, firstFault, firstFormLine, typing, verdictOn, ifAccepted, acceptedOn}
-use Rattle.type_rules.specs.Typed.{SlotFits, InstrTyped, typed-new, typed-call, typed-get, typed-put, typed-copy, ResultFits, undeclared, declared, lastRow, CodeTyped, end, next, PartTyped, typed-init, typed-body, FormTyped, Typed}
+use Rattle.type_rules.specs.Typing.{Signature, methodIn, membersAt, Own, ownField, resultOf, rowOr0, slotRow, slotRows, lastRow, bodyRows, mainRows, Fault, unless, firstOf, allFit, callFault, getFault, putFault, instrFault, resultFault, instrFaults, partFaults, partsFaults, isPure, hasField, keepFaults, formFaults, formsFaults, lineFaults, firstFault, firstFormLine, typing, verdictOn, ifAccepted, acceptedOn}
+use Rattle.type_rules.specs.Typed.{SlotFits, InstrTyped, typed-new, typed-call, typed-get, typed-put, typed-copy, ResultFits, undeclared, declared, CodeTyped, end, next, PartTyped, typed-init, typed-body, FormTyped, Typed}
 
 -- lines without a fault
 abbrev pub Faultless : List Fault → Type 0
@@ -43,6 +43,17 @@ unless-passed false r e = clash (cc)
 firstOf-none : (f g : Fault) → firstOf f g ≡ none → (f ≡ none) × (g ≡ none)
 firstOf-none none g e = (refl, e)
 firstOf-none (some r) g e = clash (cc)
+
+pub lastRow-snoc : (rows : List ℕ) (a : ℕ) → lastRow (rows ++ (a ∷ [])) ≡ a
+lastRow-snoc rows a = getD-at rows a [] 0 (pred (length (rows ++ (a ∷ [])))) (rw length-append (omega arith))
+
+-- on the last line the last of all slots is the one that its instruction fills
+pub result-row : (fit : ℕ → ℕ → Bool) (s : Sheet) (own : Own) (result : Option ℕ) (rows : List ℕ) (i : Instr) (is : List Instr)
+    → resultFault fit result (lastRow (slotRows s own rows (i ∷ is))) is ≡ resultFault fit result (slotRow s own rows i) is
+unfolding slotRows
+result-row fit s own none rows i is = refl
+result-row fit s own (some r) rows i [] = ap (λ (a : ℕ). unless (fit a r) Misfit) (lastRow-snoc rows (slotRow s own rows i))
+result-row fit s own (some r) rows i (j ∷ is) = refl
 
 module _ (s : Sheet) where
   -- INSTRUCTIONS
@@ -93,20 +104,17 @@ module _ (s : Sheet) where
 
   -- BODIES
 
-  pub lastRow-snoc : (rows : List ℕ) (a : ℕ) → lastRow (rows ++ (a ∷ [])) ≡ a
-  lastRow-snoc rows a = getD-at rows a [] 0 (pred (length (rows ++ (a ∷ [])))) (rw length-append (omega arith))
-
   result-fits : (result : Option ℕ) (a : ℕ) → resultFault (fits (s .rows)) result a [] ≡ none → ResultFits s a result
   result-fits none a e = undeclared
   result-fits (some r) a e = declared (fit-passed a r e)
 
   -- the first line of some instructions passed, with its result if it is the last
   first-typed : (own : Own) (result : Option ℕ) (rows : List ℕ) (i : Instr) (is : List Instr) → T (namesExist (length (s .forms)) (length rows) i)
-      → firstOf (instrFault (fits (s .rows)) s own rows i) (resultFault (fits (s .rows)) result (slotRow s own rows i) is) ≡ none
+      → firstOf (instrFault (fits (s .rows)) s own rows i) (resultFault (fits (s .rows)) result (lastRow (slotRows s own rows (i ∷ is))) is) ≡ none
       → InstrTyped s own rows i (slotRow s own rows i) × (resultFault (fits (s .rows)) result (slotRow s own rows i) is ≡ none)
   first-typed own result rows i is t e =
-      let p = firstOf-none (instrFault (fits (s .rows)) s own rows i) (resultFault (fits (s .rows)) result (slotRow s own rows i) is) e in
-      (instr-typed own rows i t (p .0), p .1)
+      let p = firstOf-none (instrFault (fits (s .rows)) s own rows i) (resultFault (fits (s .rows)) result (lastRow (slotRows s own rows (i ∷ is))) is) e in
+      (instr-typed own rows i t (p .0), sym (result-row (fits (s .rows)) s own result rows i is) ∙ p .1)
 
   code-typed : (own : Own) (result : Option ℕ) (rows : List ℕ) (i : Instr) (is : List Instr) → Scoped (length (s .forms)) (length rows) (i ∷ is)
       → Faultless (instrFaults (fits (s .rows)) s own result rows (i ∷ is)) → CodeTyped s own result rows (i ∷ is)

@@ -1,7 +1,7 @@
 -- What it means that a sheet is well typed (document 01, Fit and typing), as the facts on which its run rests: every slot that
 -- is named is filled and fits the place that it goes to. TypingLaws proves it of every accepted sheet, TypedLaws the converse.
 -- Stands on Typing.
-use Prim.Native.Nat.{ℕ, pred, _<_}
+use Prim.Native.Nat.{ℕ, _<_}
 use mathlib.Core.Path.{_≡_}
 use mathlib.Core.List.{List, [], _∷_, _++_}
 use mathlib.Core.Option.{Option, none, some}
@@ -13,7 +13,7 @@ use Rattle.sheet_rules.specs.declared.Member.{Member}
 use Rattle.sheet_rules.specs.declared.Member.the-variants.{Method, Field}
 use Rattle.sheet_rules.specs.Sheet.{Instr, new, call, get, put, copy, Part, init, body, Form, Sheet, rowAt, formAt}
 use Rattle.type_rules.specs.Fit.{fits}
-use Rattle.type_rules.specs.Typing.{Signature, methodIn, membersAt, Own, ownField, bodyRows, mainRows, isPure, hasField}
+use Rattle.type_rules.specs.Typing.{Signature, methodIn, membersAt, Own, ownField, lastRow, bodyRows, mainRows, isPure, hasField}
 
 -- after slots of the given rows, slot v is filled and fits row b (Fit and typing)
 pub record SlotFits (s : Sheet) (rows : List ℕ) (v b : ℕ) : Type 0 where
@@ -34,10 +34,6 @@ pub data InstrTyped (s : Sheet) (own : Own) (rows : List ℕ) : Instr → ℕ �
 pub data ResultFits (s : Sheet) (a : ℕ) : Option ℕ → Type 0 where
   undeclared : ResultFits s a none
   declared : {r : ℕ} → T (fits (s .rows) a r) → ResultFits s a (some r)
-
--- the row of the last of some slots (Fit and typing)
-abbrev pub lastRow : List ℕ → ℕ
-lastRow rows = getD rows (pred (length rows)) 0
 
 -- some instructions are well typed after slots of the given rows, each with the slots before it; at the end there is a value,
 -- the last slot, and it fits the declared result (Fit and typing)

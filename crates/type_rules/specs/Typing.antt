@@ -1,6 +1,6 @@
 -- The typing verdict: a list with the fault, if any, of each line from the first `form` line on, and the first of these
 -- (document 01, Fit and typing; Turned away, 8 to 10). Stands on Fit and on the sheet; no rule looks at bytes.
-use Prim.Native.Nat.{ℕ, suc, _+_}
+use Prim.Native.Nat.{ℕ, suc, pred, _+_}
 use mathlib.Core.Bool.{Bool, true, false, not, cond, _&&_}
 use mathlib.Core.List.{List, [], _∷_, _++_}
 use mathlib.Core.Option.{Option, none, some}
@@ -72,10 +72,19 @@ slotRow s own rows (get n) = rowOr0 (ownField s own n)
 slotRow s own rows (put n v) = rowOr0 (ownField s own n)
 slotRow s own rows (copy v) = getD rows v 0
 
--- the rows of all slots after some instructions (Fit and typing)
+-- the rows of the slots after an instruction: the given ones and, last, that of the slot that it fills (Fit and typing)
+abbrev pub rowsAfter : Sheet → Own → List ℕ → Instr → List ℕ
+rowsAfter s own rows i = rows ++ (slotRow s own rows i ∷ [])
+
+-- the rows of all slots of a body or of main: the given ones, filled at its start, and those that its instructions fill
+-- (Fit and typing)
 unfoldable pub slotRows : Sheet → Own → List ℕ → List Instr → List ℕ
 slotRows s own rows [] = rows
-slotRows s own rows (i ∷ is) = slotRows s own (rows ++ (slotRow s own rows i ∷ [])) is
+slotRows s own rows (i ∷ is) = slotRows s own (rowsAfter s own rows i) is
+
+-- the row of the last of some slots (Fit and typing)
+abbrev pub lastRow : List ℕ → ℕ
+lastRow rows = getD rows (pred (length rows)) 0
 
 -- the rows of a body's first slots: the own object, the argument, the kept values (Fit and typing)
 abbrev pub bodyRows : Form → ℕ → List ℕ
@@ -138,12 +147,13 @@ resultFault fit none a is = none
 resultFault fit (some r) a [] = unless (fit a r) Misfit
 resultFault fit (some r) a (i ∷ is) = none
 
--- the lines of some instructions (Fit and typing)
+-- the lines of some instructions, each after the slots that those before it leave; the value is the last of all slots
+-- (Fit and typing)
 unfoldable pub instrFaults : (ℕ → ℕ → Bool) → Sheet → Own → Option ℕ → List ℕ → List Instr → List Fault
 instrFaults fit s own result rows [] = []
 instrFaults fit s own result rows (i ∷ is) =
-    firstOf (instrFault fit s own rows i) (resultFault fit result (slotRow s own rows i) is)
-    ∷ instrFaults fit s own result (rows ++ (slotRow s own rows i ∷ [])) is
+    firstOf (instrFault fit s own rows i) (resultFault fit result (lastRow (slotRows s own rows (i ∷ is))) is)
+    ∷ instrFaults fit s own result (rowsAfter s own rows i) is
 
 -- the lines of a form's part for a member: `init`, or `body` and its instructions; reading gives each member its own kind
 -- (Fit and typing)

@@ -12,17 +12,17 @@ use Rattle.lists.specs.Tab.{tab}
 use Rattle.sheet_rules.specs.declared.Reason.{Reason}
 use Rattle.sheet_rules.specs.declared.Verdict.{Verdict}
 use Rattle.sheet_rules.specs.Sheet.{Row, Instr, Sheet, noRow, rowAt}
-use Rattle.type_rules.specs.Typing.{Fault, instrFaults, mainRows, lineFaults, rowLines, firstFormLine, firstFault}
+use Rattle.type_rules.specs.Typing.{Fault, instrFaults, slotRows, mainRows, lineFaults, rowLines, firstFormLine, firstFault}
 use Rattle.table.specs.View.{sheetIn}
 use Rattle.table.specs.Told.{slotRowsIn}
 use Rattle.table.proofs.ViewLaws.{only-trans}
 use Rattle.fit.specs.Told.{tells}
 use Rattle.code_typing.specs.declared.Walked.{Walked}
 use Rattle.code_typing.specs.Walk.{walk, walkOn, walkVerdict}
-use Rattle.code_typing.specs.Told.{LinesJudged, codeFaults}
+use Rattle.code_typing.specs.Told.{LinesJudged, CodeJudged}
 use Rattle.code_typing.proofs.WalkLaws.{walk-good, walk-append, walk-verdict}
 use Rattle.code_typing.proofs.CodeLaws.{slots-sheet, slots-tells}
-use Rattle.typing.specs.Told.{formsFaultsIn, mainFaultsIn, FormsJudged, SheetJudged}
+use Rattle.typing.specs.Told.{formsFaultsIn, mainFaultsIn, mainSlotRows, FormsJudged, SheetJudged}
 
 -- the line of the first form
 
@@ -58,12 +58,16 @@ module _ (rows : List Row) where
 -- main
 
 pub main-judged : (w : List ℕ) (line : ℕ) (main : List Instr) → main ≡ (sheetIn w) .main → (w′ : List ℕ) (r : Walked)
-    → LinesJudged (instrFaults (tells w) (sheetIn w) none none (slotRowsIn w 0) main) (line + 1) w w′ r → LinesJudged (mainFaultsIn w) line w w′ r
+    → CodeJudged (instrFaults (tells w) (sheetIn w) none none (slotRowsIn w 0) main) (slotRows (sheetIn w) none (slotRowsIn w 0) main) (line + 1) w w′ r
+    → CodeJudged (mainFaultsIn w) (mainSlotRows w) line w w′ r
 unfolding tab
 main-judged w line main e w′ r k =
     record {
-      told = k .told ∙ walk-good line _ ∙ ap (λ (is : List Instr). walk line (none ∷ instrFaults (tells w) (sheetIn w) none none [] is)) e;
-      only = k .only;
+      lines = record {
+        told = k .lines .told ∙ walk-good line _ ∙ ap (λ (is : List Instr). walk line (none ∷ instrFaults (tells w) (sheetIn w) none none [] is)) e;
+        only = k .lines .only;
+      };
+      slots = λ n on. subst (λ (is : List Instr). slotRowsIn w′ (length (slotRows (sheetIn w) none [] is)) ≡ slotRows (sheetIn w) none [] is) e (k .slots n on);
     }
 
 -- the whole sheet

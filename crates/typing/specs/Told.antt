@@ -4,18 +4,21 @@ use mathlib.Core.Path.{_≡_}
 use mathlib.Core.List.{List, _∷_}
 use mathlib.Core.Option.{none}
 use Rattle.sheet_rules.specs.declared.Verdict.{Verdict}
-use Rattle.type_rules.specs.Typing.{Fault, formsFaults, instrFaults, mainRows, lineFaults, firstFormLine, firstFault}
+use Rattle.type_rules.specs.Typing.{Fault, formsFaults, instrFaults, slotRows, mainRows, lineFaults, firstFormLine, firstFault}
 use Rattle.table.specs.View.{sheetIn}
 use Rattle.fit.specs.Told.{tells}
 use Rattle.code_typing.specs.declared.Walked.{Walked}
 use Rattle.code_typing.specs.Told.{OnlySlots, LinesJudged}
 
--- the lines of all forms, and of main, by the table's word on fit
+-- the lines of all forms, and of main, by the table's word on fit; and the rows of all slots of main
 abbrev pub formsFaultsIn : List ℕ → List Fault
 formsFaultsIn w = formsFaults (tells w) (sheetIn w) ((sheetIn w) .forms)
 
 abbrev pub mainFaultsIn : List ℕ → List Fault
 mainFaultsIn w = none ∷ instrFaults (tells w) (sheetIn w) none none (mainRows (sheetIn w)) ((sheetIn w) .main)
+
+abbrev pub mainSlotRows : List ℕ → List ℕ
+mainSlotRows w = slotRows (sheetIn w) none (mainRows (sheetIn w)) ((sheetIn w) .main)
 
 -- the forms' lines, judged; they are not so many that their numbers would not fit
 pub record FormsJudged (first : ℕ) (w w′ : List ℕ) (r : Walked) : Type 0 where

@@ -5,8 +5,8 @@ ghost use Rattle.type_rules.specs.Typing.{firstFormLine};
 ghost use Rattle.table.specs.View.{sheetIn};
 ghost use Rattle.table.specs.Whole.{Whole};
 ghost use Rattle.code_typing.specs.Walk.{walkVerdict};
-ghost use Rattle.code_typing.specs.Told.{LinesJudged};
-ghost use Rattle.typing.specs.Told.{mainFaultsIn, FormsJudged, SheetJudged};
+ghost use Rattle.code_typing.specs.Told.{CodeJudged};
+ghost use Rattle.typing.specs.Told.{mainFaultsIn, mainSlotRows, FormsJudged, SheetJudged};
 use code_typing::Walked;
 use instr_typing::FoundRow;
 use sheet_rules::Verdict;
@@ -48,7 +48,7 @@ fn judge_forms(work: &mut [u16], first: u32) -> Walked
 // The `main` line and main's instructions.
 fn judge_main(work: &mut [u16], line: u32) -> Walked
     requires { ⌜ Whole (now work) × (line ≤ 900000) ⌝ }
-    ensures { λ r. ⌜ LinesJudged (mainFaultsIn (now (work .entry))) line (now (work .entry)) (now (work .exit)) r ⌝ }
+    ensures { λ r. ⌜ CodeJudged (mainFaultsIn (now (work .entry))) (mainSlotRows (now (work .entry))) line (now (work .entry)) (now (work .exit)) r ⌝ }
 {
     let start = table::instrs::main_start(work);
     let count = table::instrs::main_count(work);

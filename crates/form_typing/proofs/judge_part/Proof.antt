@@ -45,7 +45,7 @@ same-length c = search needs
 
 -- src/lib.rt:92:1
 returns : tie.Need-returns
-returns c = part-body (c .before .before .before .before .before .before .before .before .before .before .before .args .f) (c .before .before .before .before .before .before .before .before .before .before .before .args .line) (c .before .before .before .before .before .before .before .before .before .before .before .args .work .now) (c .before .before .before .before .before .before .before .before .before .before .before .args .member) (c .before .before .before .before .before .before .before .before .before .before .before .args .place) _ _ _ _ _ (c .before .before .before .before .before .before .before .before .member .given .1) (c .before .before .before .before .before .place .given .1) (c .before .before .judge-body .last .0) (c .before .before .judge-body .result) (c .before .before .judge-body .ensures)
+returns c = part-body (c .before .before .before .before .before .before .before .before .before .before .before .args .f) (c .before .before .before .before .before .before .before .before .before .before .before .args .line) (c .before .before .before .before .before .before .before .before .before .before .before .args .work .now) (c .before .before .before .before .before .before .before .before .before .before .before .args .member) (c .before .before .before .before .before .before .before .before .before .before .before .args .place) _ _ _ _ _ (c .before .before .before .before .before .before .before .before .member .given .1) (c .before .before .before .before .before .place .given .1) (c .before .before .judge-body .last .0) (c .before .before .judge-body .result) (c .before .before .judge-body .ensures .lines)
 
 -- src/lib.rt:92:1
 returns-2 : tie.Need-returns-2

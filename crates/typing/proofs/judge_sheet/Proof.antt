@@ -57,7 +57,7 @@ same-length-2 c = search needs
 -- src/lib.rt:77:1
 returns-2 : tie.Need-returns-2
 returns-2 c =
-    sheet-judged (c .before .before .before .before .before .before .before .before .before .before .before .before .before .before .before .args .work .now) (c .before .before .before .before .before .before .before .before .before .before .before .before .first-form-line .result) (c .before .before .before .before .before .before .before .before .before .before .before .before .first-form-line .ensures .0) (c .before .before .before .before .before .before .before .before .before .before .judge-forms .last .0) (c .before .before .before .before .before .before .before .before .before .before .judge-forms .result) (c .before .before .before .before .before .before .before .before .before .before .judge-forms .ensures) _ (c .before .before .before .before .before .before .forms .given .1) (c .before .before .before .judge-main .last .0) (c .before .before .before .judge-main .result) (c .before .before .before .judge-main .ensures) (c .verdict-of2 .result) (c .verdict-of2 .ensures)
+    sheet-judged (c .before .before .before .before .before .before .before .before .before .before .before .before .before .before .before .args .work .now) (c .before .before .before .before .before .before .before .before .before .before .before .before .first-form-line .result) (c .before .before .before .before .before .before .before .before .before .before .before .before .first-form-line .ensures .0) (c .before .before .before .before .before .before .before .before .before .before .judge-forms .last .0) (c .before .before .before .before .before .before .before .before .before .before .judge-forms .result) (c .before .before .before .before .before .before .before .before .before .before .judge-forms .ensures) _ (c .before .before .before .before .before .before .forms .given .1) (c .before .before .before .judge-main .last .0) (c .before .before .before .judge-main .result) (c .before .before .before .judge-main .ensures .lines) (c .verdict-of2 .result) (c .verdict-of2 .ensures)
 
 pub judge-sheet-spec : {M : Type 1} → statement M
 judge-sheet-spec =
