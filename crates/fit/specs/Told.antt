@@ -7,7 +7,7 @@ use lib.Dec.{T, eqb}
 use lib.ListN.{length, set}
 use Rattle.sheet_rules.specs.declared.Member.{Member}
 use Rattle.sheet_rules.specs.Answers.{isYes}
-use Rattle.sheet_rules.specs.RowLines.{nameOf, mentionsBelow}
+use Rattle.sheet_rules.specs.RowLines.{nameOf, mentionsBelow, sameMember}
 use Rattle.sheet_rules.specs.WellFormed.{WellFormedRow}
 use Rattle.type_rules.specs.Fit.{matches, membersAnswer, rowAnswer, fits}
 use Rattle.table.specs.Layout.{rowAddress, fitAddress, tableEnd, slotRowAddress, workSize}
@@ -49,6 +49,11 @@ pub record Alike (w : List ℕ) (m k n : ℕ) : Type 0 where
   pub first : n ≤ cell w (rowAddress m + 1)
   pub second : n ≤ cell w (rowAddress k + 1)
   pub same : (t : ℕ) → t < n → memberIn w m t ≡ memberIn w k t
+
+-- and these are all that they begin with: where both have one more, it is not the same
+pub record AllAlike (w : List ℕ) (m k n : ℕ) : Type 0 where
+  pub alike : Alike w m k n
+  pub differ : n < cell w (rowAddress m + 1) → n < cell w (rowAddress k + 1) → sameMember (memberIn w m n) (memberIn w k n) ≡ false
 
 -- member i of row m and member j of row k are there, have one name, and mention rows that the table has
 pub record MatchAt (w : List ℕ) (m i k j : ℕ) : Type 0 where

@@ -1,7 +1,8 @@
 use Prim.Native.Nat.{_-_}
 use native.Mathlib.Omega.{arith}
-use mathlib.Core.Path.{sym, _∙_}
-use borrow.Author.Tests.{not-false}
+use mathlib.Core.Path.{sym, ap₂, _∙_}
+use borrow.Author.Tests.{not-true, not-false}
+use Rattle.sheet_rules.specs.RowLines.{sameMember}
 use Rattle.twins.proofs.TwinLaws.{member-equal}
 use Rattle.fit.specs.Told.{Alike}
 use Rattle.fit.proofs.MatchLaws.{alike-none, alike-next}
@@ -28,7 +29,10 @@ loop-holds c = alike-none (c .before .before .before .args .work .now) (c .befor
 
 -- src/lib.rt:90:13
 returns : tie.Need-returns Inv-loop μ-loop
-returns c = c .before .before .loop .inv
+returns c =
+    let b = c .before .before .before .member-count2 .ensures in
+    let l = c .if1 .taken in
+    record { alike = c .before .before .loop .inv; differ = λ p q. absurd (omega arith) }
 
 -- src/lib.rt:92:13
 member-requires : tie.Need-member-requires Inv-loop μ-loop
@@ -52,7 +56,13 @@ same-member-requires c κs = tt
 
 -- src/lib.rt:95:13
 returns-2 : tie.Need-returns-2 Inv-loop μ-loop
-returns-2 c = c .before .before .before .before .before .before .loop .inv
+returns-2 c =
+    record {
+      alike = c .before .before .before .before .before .before .loop .inv;
+      differ =
+          λ p q. sym (ap₂ sameMember (c .before .before .before .member .ensures) (c .before .before .member2 .ensures))
+          ∙ sym (c .before .same-member .ensures) ∙ not-true (c .before .same-member .result) (c .if2 .taken);
+    }
 
 -- src/lib.rt:97:13
 add-n : tie.Need-add-n Inv-loop μ-loop
@@ -80,7 +90,10 @@ loop-again c =
 
 -- src/lib.rt:81:1
 returns-3 : tie.Need-returns-3 Inv-loop μ-loop
-returns-3 c = c .before .loop .inv
+returns-3 c =
+    let a = c .before .before .before .member-count .ensures in
+    let h = c .loop-test .left in
+    record { alike = c .before .loop .inv; differ = λ p q. absurd (omega arith) }
 
 pub alike-spec : {M : Type 1} → statement M
 alike-spec =

@@ -27,7 +27,7 @@ alike-requires c κs = (c .before .before .before .pre .0, c .before .before .be
 loop-holds : tie.Need-loop-holds Inv-loop μ-loop
 loop-holds c =
     let a = c .before .before .member-count .ensures in let b = c .before .member-count2 .ensures in
-    let r = c .alike .ensures in
+    let r = c .alike .ensures .alike in
     let h = r .first in
     let l = r .second in
     (omega arith, omega arith, begun (c .before .before .before .before .args .work .now) (c .before .before .before .before .args .m) (c .before .before .before .before .args .k) (c .before .before .before .before .args .kinds) (c .alike .result) (c .before .before .before .before .pre .2) (c .before .before .before .before .pre .3) (c .before .before .before .before .pre .5) r)
