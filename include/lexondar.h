@@ -51,7 +51,8 @@ enum lexondar_refusal {
     LEXONDAR_IMPURE_FORM = 8,      /* a pure row's form has a field or keeps a resource row */
     LEXONDAR_NO_SUCH_MEMBER = 9,   /* no such method or field; get or put in main */
     LEXONDAR_MISFIT = 10,          /* a value does not fit, or a new has not its kept values */
-    LEXONDAR_NO_HOLDER = 11        /* after the run: no such object, or a pure one; line 0 */
+    LEXONDAR_NO_HOLDER = 11        /* after the run: no such object, a pure one,
+                                      or a number over 256; line 0 */
 };
 
 /* How a run ended. */

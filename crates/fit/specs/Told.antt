@@ -95,7 +95,7 @@ unfoldable pub rowsFilled : List ℕ → ℕ → List ℕ
 rowsFilled w zero = w
 rowsFilled w (suc m) = pairsFilled (rowsFilled w m) m (suc m)
 
--- the whole table of n rows is filled: each cell says whether its rows fit, there and back, and nothing else is changed
+-- the whole table of n rows is filled: each cell says whether its rows fit, there and back, and nothing outside the fit table is changed
 pub record FitFilled (n : ℕ) (w w′ : List ℕ) : Type 0 where
   pub only : Only tableEnd (slotRowAddress 0) w w′
   pub cells : (a b : ℕ) → a < n → b < n → cell w′ (fitAddress a b) ≡ twoBits (fits (rowsIn w n) a b) (fits (rowsIn w n) b a)

@@ -1,4 +1,4 @@
--- A line read byte by byte, as the code does it. ScanLaws proves that this finds the lines of the rules (sheet_rules, Lines).
+-- A line read byte by byte, as the code does it. LineFound proves that this finds the lines of the rules (sheet_rules, Lines).
 use Prim.Native.Nat.{ℕ, _+_, _*_, _-_, _≤_}
 use mathlib.Core.Bool.{cond}
 use mathlib.Core.List.{List, [], _∷_}

@@ -46,7 +46,7 @@ pub enum KeyRead {
     Torn,
 }
 
-// A line in the sheet's shape with a known key and at most nine numbers, and the place after it.
+// A line in the sheet's shape, its key known or not, with at most nine numbers, and the place after it; or none that a place takes.
 pub enum LineRead {
     Line {
         key: Key,

@@ -1,4 +1,5 @@
--- A work buffer that holds a sheet: what the crates above the reader know of it. Stands on View and Slots.
+-- A work buffer that holds a sheet: what the crates above the reader know of it. Stands on Layout, on View and on
+-- the rules' well-formed sheets.
 use Prim.Native.Nat.{_≤_, ℕ}
 use mathlib.Core.List.{List}
 use lib.ListN.{length}

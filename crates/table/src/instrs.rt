@@ -135,7 +135,7 @@ pub fn slot_named(work: &[u16], p: usize, k: usize) -> u16
     work[4624 + 11 * p + (3 + k)]
 }
 
-// The row of slot v, where so many are filled.
+// The row of slot v, where `filled` slots are filled.
 pub fn slot_row(work: &[u16], filled: usize, v: usize) -> u16
     requires { ⌜ (filled ≤ 64) × (workSize ≤ length (now work)) ⌝ }
     ensures { λ r. ⌜ r ≡ getD (slotRowsIn (now (work .entry)) filled) v 0 ⌝ }
