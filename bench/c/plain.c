@@ -8,11 +8,11 @@
 
 enum { STORE = 256, STACK = 64, SLOTS = 44, NO_VALUE = 65535 };
 enum { DONE, SPENT, STORE_FULL, STACK_FULL };
-enum { NEW = 10, CALL, GET, PUT, COPY };
+enum { NEW, CALL, GET, PUT, COPY };
 
-/* A line of the sheet: its key's code, how many numbers it has, and nine. */
+/* A line of the sheet: its operation's code, how many numbers it has, and nine. */
 typedef struct {
-    uint16_t key, count, n[9];
+    uint16_t operation, count, n[9];
 } Line;
 
 /* A method's body, or the kept value that a field starts as. */
@@ -77,7 +77,7 @@ Answer plain_run(const Table *t, uint32_t budget) {
             continue;
         }
         if (steps == budget) return (Answer){SPENT, steps, NO_VALUE, objects};
-        switch (next->key) {
+        switch (next->operation) {
         case NEW:
             if (objects == STORE) return (Answer){STORE_FULL, steps, NO_VALUE, objects};
             make(t, next, store + objects, slots);

@@ -7,11 +7,11 @@ use second::{RunAnswer, Sheet};
 /// Names of a row are below this.
 const NAMES: usize = 64;
 
-/// `Line` in C: a key's code, how many numbers, and nine.
+/// `Line` in C: an operation's code, how many numbers, and nine.
 #[repr(C)]
 #[derive(Clone, Copy, Default)]
 struct Line {
-    key: u16,
+    operation: u16,
     count: u16,
     numbers: [u16; 9],
 }
@@ -138,11 +138,11 @@ impl Program {
 
 fn line(instruction: &Instruction) -> Line {
     let mut numbers = [0; 9];
-    let (key, count) = match instruction {
+    let (operation, count) = match instruction {
         Instruction::New { form, slots } => {
             numbers[0] = *form;
             numbers[1..=slots.len()].copy_from_slice(slots);
-            (10, 1 + slots.len())
+            (0, 1 + slots.len())
         }
         Instruction::Call {
             slot,
@@ -150,23 +150,23 @@ fn line(instruction: &Instruction) -> Line {
             argument,
         } => {
             numbers[..3].copy_from_slice(&[*slot, *name, *argument]);
-            (11, 3)
+            (1, 3)
         }
         Instruction::Get { name } => {
             numbers[0] = *name;
-            (12, 1)
+            (2, 1)
         }
         Instruction::Put { name, slot } => {
             numbers[..2].copy_from_slice(&[*name, *slot]);
-            (13, 2)
+            (3, 2)
         }
         Instruction::Copy { slot } => {
             numbers[0] = *slot;
-            (14, 1)
+            (4, 1)
         }
     };
     Line {
-        key,
+        operation,
         count: count as u16,
         numbers,
     }

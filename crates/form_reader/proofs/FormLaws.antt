@@ -5,7 +5,7 @@ use mathlib.Core.Path.{_≡_, refl, sym, ap, ap₂, _∙_, subst}
 use mathlib.Core.List.{List, []}
 use lib.ListN.{length, drop}
 use Rattle.lists.proofs.TabLaws.{tab-ext, length-tab, getD-tab}
-use Rattle.sheet_rules.specs.declared.Key.{Key}
+use Rattle.sheet_rules.specs.declared.Place.{Place}
 use Rattle.sheet_rules.specs.declared.Member.{Member}
 use Rattle.sheet_rules.specs.declared.Reason.{Reason}
 use Rattle.sheet_rules.specs.Lines.{Line, linesOf}
@@ -63,8 +63,8 @@ module _ (text : List ℕ) (f row keeps rows forms used at n : ℕ) (w : List �
   row-there : rowAt (rowsIn w rows) row ≡ rowIn w row
   row-there = getD-tab (rowIn w) rows row noRow hr
 
-  keeps-told : readTold text r (keepsIn w₂ f keeps) ≡ many keeps (λ before. one (existingLine Key.Keep (length (rowsIn w rows)))) [] (linesOf (drop at text)) n
-  keeps-told = k .told ∙ ap (λ (m : ℕ). many keeps (λ before. one (existingLine Key.Keep m)) [] (linesOf (drop at text)) n) (sym rows-length)
+  keeps-told : readTold text r (keepsIn w₂ f keeps) ≡ many keeps (λ before. one (existingLine Place.Keep (length (rowsIn w rows)))) [] (linesOf (drop at text)) n
+  keeps-told = k .told ∙ ap (λ (m : ℕ). many keeps (λ before. one (existingLine Place.Keep m)) [] (linesOf (drop at text)) n) (sym rows-length)
 
   pub keeps-refused : (q : Reason) (l : ℕ) → r ≡ Progress.Refused q l
       → FormRead text f used (formRest (rowsIn w rows) forms used (record { row = row; count = keeps })) at n w w₂ (PoolProgress.Refused q l)

@@ -3,7 +3,7 @@ use Prim.Native.Nat.{ℕ, _+_, _≤_, _<_}
 use mathlib.Core.Path.{_≡_}
 use mathlib.Core.List.{List, []}
 use lib.ListN.{length, getD}
-use Rattle.sheet_rules.specs.declared.Key.{Key}
+use Rattle.sheet_rules.specs.declared.Place.{Place}
 use Rattle.sheet_rules.specs.declared.Member.{Member}
 use Rattle.sheet_rules.specs.Sheet.{Row, Part, Form, noMember, rowAt, sizeOfParts, sizeOfForms}
 use Rattle.sheet_rules.specs.Reader.{Reader, _>>=_, give, one, many, existingLine}
@@ -60,7 +60,7 @@ partsRest members row forms used keeps =
 
 unfoldable pub formRest : List Row → ℕ → ℕ → FormHeading → Reader Form
 formRest rows forms used h =
-    many (h .count) (λ before. one (existingLine Key.Keep (length rows))) []
+    many (h .count) (λ before. one (existingLine Place.Keep (length rows))) []
     >>= partsRest ((rowAt rows (h .row)) .members) (h .row) forms used
 
 -- the rule's reader of a form, after so many instructions

@@ -2,20 +2,22 @@
 use Prim.Native.Nat.{ℕ, zero, suc, _≤_, _<_}
 use native.Mathlib.Omega.{arith}
 use mathlib.Core.Path.{_≡_, refl, sym, ap, ap₂, _∙_, subst}
-use mathlib.Core.Bool.{Bool, true, false, _&&_, _||_}
-use mathlib.Core.List.{List, [], _∷_}
-use lib.Dec.{T, leb, ltb, lit≤}
+use mathlib.Core.Bool.{Bool, true, false, _&&_}
+use mathlib.Core.List.{[], _∷_}
+use lib.Dec.{leb, ltb, lit≤}
 use lib.ListN.{take, drop}
 use borrow.Author.Tests.{le-leb, lt-leb}
-use Rattle.sheet_rules.specs.declared.Key.{Key}
-use Rattle.sheet_rules.specs.declared.Key.the-variants.{Types, Row, Def, Var, Forms, Form, Keep, Init, Body, Main, New, Call, Get, Put, Copy, Unknown}
+use Rattle.sheet_rules.specs.declared.Operation.{Operation}
+use Rattle.sheet_rules.specs.declared.Operation.the-variants.{New, Call, Get, Put, Copy}
+use Rattle.sheet_rules.specs.declared.Place.{Place}
+use Rattle.sheet_rules.specs.declared.Place.the-variants.{Instruction}
 use Rattle.sheet_rules.specs.declared.Reason.the-variants.{Malformed, OutOfLimit, NotDefined}
-use Rattle.sheet_rules.specs.Keys.{hasKey, hasInstructionKey}
-use Rattle.sheet_rules.specs.Reader.{good, bad}
+use Rattle.sheet_rules.specs.Keys.{samePlace, operationOf}
+use Rattle.sheet_rules.specs.Reader.{good, bad, demand}
 use Rattle.sheet_rules.specs.FormLines.{instrOf, nameAllowed, allBelow, namesExist, instrLine}
 use Rattle.lexer.specs.declared.Numbers.{Numbers}
-use Rattle.lexer.specs.Scan.{listOf}
-use Rattle.judges.proofs.JudgeLaws.{number-first, number-second, number-third, demand-no, demand-yes}
+use Rattle.lexer.specs.Scan.{listOf, Fitting}
+use Rattle.judges.proofs.JudgeLaws.{stands-place, number-first, number-second, number-third, demand-no, demand-yes}
 use Rattle.instr_judge.specs.Named.{nameIn, slotOk, existIn}
 
 -- the slots of a `new` line
@@ -59,91 +61,53 @@ unfolding listOf
 slots-listed ns bound m =
     slots-listed′ (ns .count) (ns .n0) (ns .n1) (ns .n2) (ns .n3) (ns .n4) (ns .n5) (ns .n6) (ns .n7) (ns .n8) bound m
 
--- an instruction line has the count of its own key
-
-pick : (x : Bool) (f : Bool → Bool) → f false ≡ false → f x ≡ true → x ≡ true
-pick true f p q = refl
-pick false f p q = sym p ∙ q
-
-own-key : (k : Key) (ns : List ℕ) → hasInstructionKey k ns ≡ true → hasKey k k ns ≡ true
-own-key New ns e = pick (hasKey New New ns) (λ x. x || false || false || false || false) refl e
-own-key Call ns e = pick (hasKey Call Call ns) (λ x. x || false || false || false) refl e
-own-key Get ns e = pick (hasKey Get Get ns) (λ x. x || false || false) refl e
-own-key Put ns e = pick (hasKey Put Put ns) (λ x. x || false) refl e
-own-key Copy ns e = e
-own-key Types ns e = absurd (subst T (sym e) tt)
-own-key Row ns e = absurd (subst T (sym e) tt)
-own-key Def ns e = absurd (subst T (sym e) tt)
-own-key Var ns e = absurd (subst T (sym e) tt)
-own-key Forms ns e = absurd (subst T (sym e) tt)
-own-key Form ns e = absurd (subst T (sym e) tt)
-own-key Keep ns e = absurd (subst T (sym e) tt)
-own-key Init ns e = absurd (subst T (sym e) tt)
-own-key Body ns e = absurd (subst T (sym e) tt)
-own-key Main ns e = absurd (subst T (sym e) tt)
-own-key Unknown ns e = absurd (subst T (sym e) tt)
-
-module _ (ns : Numbers) (m : ns .count ≤ 9) where
+module _ (ns : Numbers) where
   -- the name
-  named : (k : Key) → hasInstructionKey k (listOf ns) ≡ true → nameAllowed (instrOf k (listOf ns)) ≡ leb (nameIn k ns) 63
-  unfolding instrOf nameIn
-  named New e = refl
-  named Call e = ap (λ (n : ℕ). leb n 63) (number-second Call Call ns m (own-key Call (listOf ns) e) (lit≤ tt))
-  named Get e = ap (λ (n : ℕ). leb n 63) (number-first Get Get ns m (own-key Get (listOf ns) e))
-  named Put e = ap (λ (n : ℕ). leb n 63) (number-first Put Put ns m (own-key Put (listOf ns) e))
-  named Copy e = refl
-  named Types e = absurd (subst T (sym e) tt)
-  named Row e = absurd (subst T (sym e) tt)
-  named Def e = absurd (subst T (sym e) tt)
-  named Var e = absurd (subst T (sym e) tt)
-  named Forms e = absurd (subst T (sym e) tt)
-  named Form e = absurd (subst T (sym e) tt)
-  named Keep e = absurd (subst T (sym e) tt)
-  named Init e = absurd (subst T (sym e) tt)
-  named Body e = absurd (subst T (sym e) tt)
-  named Main e = absurd (subst T (sym e) tt)
-  named Unknown e = absurd (subst T (sym e) tt)
+  named : (o : Operation) → Fitting (Instruction o) ns → nameAllowed (instrOf o (listOf ns)) ≡ leb (nameIn o ns) 63
+  unfolding nameIn
+  named New h = refl
+  named Call h = ap (λ (n : ℕ). leb n 63) (number-second (Instruction Call) ns h (lit≤ tt))
+  named Get h = ap (λ (n : ℕ). leb n 63) (number-first (Instruction Get) ns h)
+  named Put h = ap (λ (n : ℕ). leb n 63) (number-first (Instruction Put) ns h)
+  named Copy h = refl
 
   module _ (forms filled : ℕ) where
     -- what is referred to
-    referred : (k : Key) → hasInstructionKey k (listOf ns) ≡ true → namesExist forms filled (instrOf k (listOf ns)) ≡ existIn forms filled k ns
-    unfolding instrOf existIn
-    referred New e = ap (λ (n : ℕ). ltb n forms && allBelow filled (drop 1 (listOf ns))) (number-first New New ns m (own-key New (listOf ns) e))
-    referred Call e =
-        ap₂ (λ (a b : ℕ). ltb a filled && ltb b filled) (number-first Call Call ns m (own-key Call (listOf ns) e))
-        (number-third Call Call ns m (own-key Call (listOf ns) e) (lit≤ tt))
-    referred Get e = refl
-    referred Put e = ap (λ (n : ℕ). ltb n filled) (number-second Put Put ns m (own-key Put (listOf ns) e) (lit≤ tt))
-    referred Copy e = ap (λ (n : ℕ). ltb n filled) (number-first Copy Copy ns m (own-key Copy (listOf ns) e))
-    referred Types e = absurd (subst T (sym e) tt)
-    referred Row e = absurd (subst T (sym e) tt)
-    referred Def e = absurd (subst T (sym e) tt)
-    referred Var e = absurd (subst T (sym e) tt)
-    referred Forms e = absurd (subst T (sym e) tt)
-    referred Form e = absurd (subst T (sym e) tt)
-    referred Keep e = absurd (subst T (sym e) tt)
-    referred Init e = absurd (subst T (sym e) tt)
-    referred Body e = absurd (subst T (sym e) tt)
-    referred Main e = absurd (subst T (sym e) tt)
-    referred Unknown e = absurd (subst T (sym e) tt)
+    referred : (o : Operation) → Fitting (Instruction o) ns → namesExist forms filled (instrOf o (listOf ns)) ≡ existIn forms filled o ns
+    unfolding existIn
+    referred New h = ap (λ (n : ℕ). ltb n forms && allBelow filled (drop 1 (listOf ns))) (number-first (Instruction New) ns h)
+    referred Call h =
+        ap₂ (λ (a b : ℕ). ltb a filled && ltb b filled) (number-first (Instruction Call) ns h) (number-third (Instruction Call) ns h (lit≤ tt))
+    referred Get h = refl
+    referred Put h = ap (λ (n : ℕ). ltb n filled) (number-second (Instruction Put) ns h (lit≤ tt))
+    referred Copy h = ap (λ (n : ℕ). ltb n filled) (number-first (Instruction Copy) ns h)
 
     -- a law for each exit of the judge
-    module _ (k : Key) where
-      pub instr-malformed : hasInstructionKey k (listOf ns) ≡ false → bad Malformed ≡ instrLine forms filled k (listOf ns)
+    module _ (k : Place) (h : Fitting k ns) where
+      pub instr-malformed : samePlace k (Instruction New) ≡ false → bad Malformed ≡ instrLine forms filled k (listOf ns)
       unfolding instrLine
-      instr-malformed e = sym (demand-no _ _ _ e)
+      instr-malformed e = sym (demand-no _ _ _ (stands-place (Instruction New) k ns h ∙ e))
 
-      module _ (e : hasInstructionKey k (listOf ns) ≡ true) where
-        pub instr-name : 63 < nameIn k ns → bad OutOfLimit ≡ instrLine forms filled k (listOf ns)
-        unfolding instrLine
-        instr-name f = sym (demand-yes _ _ _ e ∙ demand-no _ _ _ (named k e ∙ lt-leb (nameIn k ns) 63 f))
+      module _ (o : Operation) (e : k ≡ Instruction o) where
+        fits : Fitting (Instruction o) ns
+        fits = subst (λ (x : Place). Fitting x ns) e h
 
-        pub instr-not : nameIn k ns ≤ 63 → existIn forms filled k ns ≡ false → bad NotDefined ≡ instrLine forms filled k (listOf ns)
+        -- the rule's line, by its operation
+        instr-line : instrLine forms filled k (listOf ns)
+            ≡ demand (leb (nameIn o ns) 63) OutOfLimit (demand (existIn forms filled o ns) NotDefined (good (instrOf o (listOf ns))))
         unfolding instrLine
-        instr-not f g =
-            sym (demand-yes _ _ _ e ∙ demand-yes _ _ _ (named k e ∙ le-leb (nameIn k ns) 63 f) ∙ demand-no _ _ _ (referred k e ∙ g))
+        instr-line =
+            ap (λ (x : Place). instrLine forms filled x (listOf ns)) e
+            ∙ demand-yes _ _ _ (stands-place (Instruction New) (Instruction o) ns fits)
+            ∙ ap₂ (λ (a b : Bool). demand a OutOfLimit (demand b NotDefined (good (instrOf o (listOf ns))))) (named o fits) (referred o fits)
 
-        pub instr-good : nameIn k ns ≤ 63 → existIn forms filled k ns ≡ true → good (instrOf k (listOf ns)) ≡ instrLine forms filled k (listOf ns)
-        unfolding instrLine
+        pub instr-name : 63 < nameIn o ns → bad OutOfLimit ≡ instrLine forms filled k (listOf ns)
+        instr-name f = sym (instr-line ∙ demand-no _ _ _ (lt-leb (nameIn o ns) 63 f))
+
+        pub instr-not : nameIn o ns ≤ 63 → existIn forms filled o ns ≡ false → bad NotDefined ≡ instrLine forms filled k (listOf ns)
+        instr-not f g = sym (instr-line ∙ demand-yes _ _ _ (le-leb (nameIn o ns) 63 f) ∙ demand-no _ _ _ g)
+
+        pub instr-good : nameIn o ns ≤ 63 → existIn forms filled o ns ≡ true → good (instrOf (operationOf k) (listOf ns)) ≡ instrLine forms filled k (listOf ns)
         instr-good f g =
-            sym (demand-yes _ _ _ e ∙ demand-yes _ _ _ (named k e ∙ le-leb (nameIn k ns) 63 f) ∙ demand-yes _ _ _ (referred k e ∙ g))
+            ap (λ (x : Place). good (instrOf (operationOf x) (listOf ns))) e
+            ∙ sym (instr-line ∙ demand-yes _ _ _ (le-leb (nameIn o ns) 63 f) ∙ demand-yes _ _ _ g)

@@ -1,59 +1,40 @@
-// The judgement of an instruction line: its key and number count, its name, and what it refers to.
+// The judgement of an instruction line: its place, its name, and what it refers to.
 ghost use mathlib.Core.Path.{_≡_};
 ghost use Prim.Native.Nat.{_≤_};
 ghost use lib.ListN.{drop};
-ghost use Rattle.sheet_rules.specs.Keys.{hasInstructionKey};
+ghost use Rattle.sheet_rules.specs.declared.Operation.{Operation as OperationRule};
+ghost use Rattle.sheet_rules.specs.Keys.{operationOf};
 ghost use Rattle.sheet_rules.specs.Reader.{good};
 ghost use Rattle.sheet_rules.specs.FormLines.{allBelow, instrOf, instrLine};
-ghost use Rattle.lexer.specs.Scan.{listOf};
+ghost use Rattle.lexer.specs.Scan.{listOf, Fitting};
 ghost use Rattle.judges.specs.Told.{lineTold};
 ghost use Rattle.instr_judge.specs.Named.{nameIn, slotOk, existIn};
 use judges::LineJudged;
 use lexer::Numbers;
-use sheet_rules::Key;
+use sheet_rules::Operation;
+use sheet_rules::Place;
 use sheet_rules::Reason;
 
-// The line has the key of an instruction, with its numbers.
-fn is_instruction(key: Key, numbers: Numbers) -> bool
-    requires { ⌜ numbers .count ≤ 9 ⌝ }
-    ensures { λ r. ⌜ r ≡ hasInstructionKey key (listOf numbers) ⌝ }
+// What a key of an instruction's place does.
+pub fn operation_of(place: Place) -> Operation
+    ensures { λ r. ⌜ r ≡ operationOf place ⌝ }
 {
-    if judges::has_key(Key::New, key, numbers) {
-        return true;
-    }
-    if judges::has_key(Key::Call, key, numbers) {
-        return true;
-    }
-    if judges::has_key(Key::Get, key, numbers) {
-        return true;
-    }
-    if judges::has_key(Key::Put, key, numbers) {
-        return true;
-    }
-    judges::has_key(Key::Copy, key, numbers)
+    let Place::Instruction { operation } = place else {
+        return Operation::Copy;
+    };
+    operation
 }
 
 // The name that an instruction has; 0 stands in where it has none.
-fn name_in(key: Key, numbers: Numbers) -> u16
-    ensures { λ r. ⌜ r ≡ nameIn key numbers ⌝ }
+fn name_in(operation: Operation, numbers: Numbers) -> u16
+    ensures { λ r. ⌜ r ≡ nameIn operation numbers ⌝ }
 {
-    match key {
-        Key::Call => numbers.n1,
-        Key::Get => numbers.n0,
-        Key::Put => numbers.n0,
-        Key::Types => 0,
-        Key::Row => 0,
-        Key::Def => 0,
-        Key::Var => 0,
-        Key::Forms => 0,
-        Key::Form => 0,
-        Key::Keep => 0,
-        Key::Init => 0,
-        Key::Body => 0,
-        Key::Main => 0,
-        Key::New => 0,
-        Key::Copy => 0,
-        Key::Unknown => 0,
+    match operation {
+        Operation::New => 0,
+        Operation::Call => numbers.n1,
+        Operation::Get => numbers.n0,
+        Operation::Put => numbers.n0,
+        Operation::Copy => 0,
     }
 }
 
@@ -100,7 +81,7 @@ fn slots_below(filled: u16, numbers: Numbers) -> bool
 // A form and slots that exist.
 fn new_exists(forms: u16, filled: u16, numbers: Numbers) -> bool
     requires { ⌜ numbers .count ≤ 9 ⌝ }
-    ensures { λ r. ⌜ r ≡ existIn forms filled Key.New numbers ⌝ }
+    ensures { λ r. ⌜ r ≡ existIn forms filled OperationRule.New numbers ⌝ }
 {
     if numbers.n0 < forms {
         return slots_below(filled, numbers);
@@ -110,7 +91,7 @@ fn new_exists(forms: u16, filled: u16, numbers: Numbers) -> bool
 
 // A receiver and an argument that exist.
 fn call_exists(forms: u16, filled: u16, numbers: Numbers) -> bool
-    ensures { λ r. ⌜ r ≡ existIn forms filled Key.Call numbers ⌝ }
+    ensures { λ r. ⌜ r ≡ existIn forms filled OperationRule.Call numbers ⌝ }
 {
     if numbers.n0 < filled {
         return numbers.n2 < filled;
@@ -118,47 +99,36 @@ fn call_exists(forms: u16, filled: u16, numbers: Numbers) -> bool
     false
 }
 
-// What the instruction refers to exists: the key is matched to its operands.
-fn names_exist(forms: u16, filled: u16, key: Key, numbers: Numbers) -> bool
+// What the instruction refers to exists: the operation is matched to its operands.
+fn names_exist(forms: u16, filled: u16, operation: Operation, numbers: Numbers) -> bool
     requires { ⌜ numbers .count ≤ 9 ⌝ }
-    ensures { λ r. ⌜ r ≡ existIn forms filled key numbers ⌝ }
+    ensures { λ r. ⌜ r ≡ existIn forms filled operation numbers ⌝ }
 {
-    match key {
-        Key::New => new_exists(forms, filled, numbers),
-        Key::Call => call_exists(forms, filled, numbers),
-        Key::Get => true,
-        Key::Put => numbers.n1 < filled,
-        Key::Copy => numbers.n0 < filled,
-        Key::Types => true,
-        Key::Row => true,
-        Key::Def => true,
-        Key::Var => true,
-        Key::Forms => true,
-        Key::Form => true,
-        Key::Keep => true,
-        Key::Init => true,
-        Key::Body => true,
-        Key::Main => true,
-        Key::Unknown => true,
+    match operation {
+        Operation::New => new_exists(forms, filled, numbers),
+        Operation::Call => call_exists(forms, filled, numbers),
+        Operation::Get => true,
+        Operation::Put => numbers.n1 < filled,
+        Operation::Copy => numbers.n0 < filled,
     }
 }
 
 // An instruction line, in a sheet of so many forms, with so many slots filled.
-pub fn instr_line(forms: u16, filled: u16, key: Key, numbers: Numbers) -> LineJudged
-    requires { ⌜ numbers .count ≤ 9 ⌝ }
-    ensures { λ r. ⌜ lineTold r (good (instrOf key (listOf numbers))) ≡ instrLine forms filled key (listOf numbers) ⌝ }
+pub fn instr_line(forms: u16, filled: u16, place: Place, numbers: Numbers) -> LineJudged
+    requires { ⌜ Fitting place numbers ⌝ }
+    ensures { λ r. ⌜ lineTold r (good (instrOf (operationOf place) (listOf numbers))) ≡ instrLine forms filled place (listOf numbers) ⌝ }
 {
-    if !is_instruction(key, numbers) {
+    let Place::Instruction { operation } = place else {
         return LineJudged::Refused {
             reason: Reason::Malformed,
         };
-    }
-    if 63 < name_in(key, numbers) {
+    };
+    if 63 < name_in(operation, numbers) {
         return LineJudged::Refused {
             reason: Reason::OutOfLimit,
         };
     }
-    if !names_exist(forms, filled, key, numbers) {
+    if !names_exist(forms, filled, operation, numbers) {
         return LineJudged::Refused {
             reason: Reason::NotDefined,
         };

@@ -3,17 +3,14 @@ use Prim.Native.Nat.{ℕ, zero, suc, _+_, _≤_, _<_}
 use native.Mathlib.Omega.{arith}
 use mathlib.Core.Path.{_≡_, refl, sym, ap, _∙_, subst}
 use mathlib.Core.List.{List, [], _∷_}
-use lib.Dec.{lit≤}
 use lib.ListN.{length, getD, set, length-set}
 use lib.Seq.{getD-set-same, getD-set-other}
 use Rattle.lists.specs.Tab.{tab}
 use Rattle.lists.proofs.TabLaws.{tab-ext}
-use Rattle.sheet_rules.specs.declared.Key.{Key}
-use Rattle.sheet_rules.specs.declared.Key.the-variants.{Types, Row, Def, Var, Forms, Form, Keep, Init, Body, Main, New, Call, Get, Put, Copy, Unknown}
-use Rattle.sheet_rules.specs.Keys.{codeOf}
+use Rattle.sheet_rules.specs.declared.Operation.{Operation}
 use Rattle.lexer.specs.declared.Numbers.{Numbers}
 use Rattle.table.specs.Layout.{instrAddress, workSize}
-use Rattle.table.specs.View.{cell, instrFrom, instrIn}
+use Rattle.table.specs.View.{cell, operationCode, instrFrom, instrIn}
 use Rattle.table.specs.Only.{Only}
 use Rattle.table.proofs.ViewLaws.{only-refl, only-set, only-trans}
 use Rattle.instr_reader.specs.Reads.{firstSix, lastFive, nineOf, StoredInstr}
@@ -46,13 +43,13 @@ run-at (a ∷ vs) w at k (suc m) h l =
     ap (λ (x : ℕ). cell (run (set w (at + k) a) at (suc k) vs) x) e
     ∙ run-at vs (set w (at + k) a) at (suc k) m (omega arith) (omega (arith, length-set w (at + k) a))
 
--- what the two stores leave
-abbrev pub eleven : List ℕ → ℕ → ℕ → Numbers → List ℕ
-eleven w at code ns = lastFive (firstSix w at code ns) at ns
-
 -- the numbers after the code
 abbrev tail : Numbers → List ℕ
 tail ns = ns .count ∷ ns .n0 ∷ ns .n1 ∷ ns .n2 ∷ ns .n3 ∷ ns .n4 ∷ ns .n5 ∷ ns .n6 ∷ ns .n7 ∷ ns .n8 ∷ []
+
+-- what the two stores leave
+abbrev eleven : List ℕ → ℕ → ℕ → Numbers → List ℕ
+eleven w at code ns = run (set w at code) at 1 (tail ns)
 
 module _ (w : List ℕ) (at code : ℕ) (ns : Numbers) where
   eleven-only : Only at (at + 11) w (eleven w at code ns)
@@ -82,33 +79,10 @@ eleven-instr w p code ns h =
     λ x. instrFrom (eleven-code w (instrAddress p) code ns z x) (eleven-tail w (instrAddress p) code ns z 0 (omega arith) x) (eleven-numbers w (instrAddress p) code ns z x)
 
 -- what storing leaves
-pub stored-eleven : (w w′ : List ℕ) (p : ℕ) (k : Key) (ns : Numbers) (at code : ℕ) → workSize ≤ length w → at ≡ instrAddress p → code ≡ codeOf k
-    → w′ ≡ eleven w at code ns → StoredInstr p (instrFrom (codeOf k) (ns .count) (nineOf ns)) w w′
-stored-eleven w w′ p k ns at code h place c e =
+pub stored-eleven : (w w′ : List ℕ) (p : ℕ) (operation : Operation) (ns : Numbers) → workSize ≤ length w → w′ ≡ lastFive (firstSix w p operation ns) p ns
+    → StoredInstr p (instrFrom (operationCode operation) (ns .count) (nineOf ns)) w w′
+stored-eleven w w′ p operation ns h e =
     record {
-      holds =
-          ap (λ (x : List ℕ). instrIn x p) there ∙ eleven-instr w p code ns h
-          ∙ ap (λ (x : ℕ). instrFrom x (ns .count) (nineOf ns)) c;
-      only = subst (Only (instrAddress p) (instrAddress p + 11) w) (sym there) (eleven-only w (instrAddress p) code ns);
+      holds = ap (λ (x : List ℕ). instrIn x p) e ∙ eleven-instr w p (operationCode operation) ns h;
+      only = subst (Only (instrAddress p) (instrAddress p + 11) w) (sym e) (eleven-only w (instrAddress p) (operationCode operation) ns);
     }
-  where
-    there : w′ ≡ eleven w (instrAddress p) code ns
-    there = e ∙ ap (λ (x : ℕ). eleven w x code ns) place
-
-pub code-small : (k : Key) → codeOf k ≤ 15
-code-small Types = lit≤ tt
-code-small Row = lit≤ tt
-code-small Def = lit≤ tt
-code-small Var = lit≤ tt
-code-small Forms = lit≤ tt
-code-small Form = lit≤ tt
-code-small Keep = lit≤ tt
-code-small Init = lit≤ tt
-code-small Body = lit≤ tt
-code-small Main = lit≤ tt
-code-small New = lit≤ tt
-code-small Call = lit≤ tt
-code-small Get = lit≤ tt
-code-small Put = lit≤ tt
-code-small Copy = lit≤ tt
-code-small Unknown = lit≤ tt

@@ -3,24 +3,29 @@ use Prim.Native.Nat.{ℕ, _+_, _*_}
 use mathlib.Core.Path.{_≡_}
 use mathlib.Core.List.{List, [], _∷_}
 use lib.ListN.{set}
+use Rattle.sheet_rules.specs.declared.Operation.{Operation}
 use Rattle.sheet_rules.specs.Sheet.{Instr}
 use Rattle.sheet_rules.specs.Reader.{one}
 use Rattle.sheet_rules.specs.FormLines.{instrLine, readInstrs}
 use Rattle.lexer.specs.declared.Numbers.{Numbers}
 use Rattle.table.specs.Layout.{instrAddress}
 use Rattle.table.specs.View.{instrIn, instrsIn}
+use Rattle.table.specs.Stores.{operationPut}
 use Rattle.table.specs.Only.{Only}
 use Rattle.line_reader.specs.declared.Progress.{Progress}
 use Rattle.read_loop.specs.Items.{ItemRead}
 
--- the eleven numbers of an instruction, from a place on: its key's code, its number count, and nine numbers
-abbrev pub firstSix : List ℕ → ℕ → ℕ → Numbers → List ℕ
-firstSix w at code ns =
-    set (set (set (set (set (set w at code) (at + 1) (ns .count)) (at + 2) (ns .n0)) (at + 3) (ns .n1)) (at + 4) (ns .n2)) (at + 5) (ns .n3)
+-- number k of instruction p, stored
+abbrev pub numberPut : List ℕ → ℕ → ℕ → ℕ → List ℕ
+numberPut w p k n = set w (instrAddress p + (2 + k)) n
+
+-- the eleven numbers of instruction p, stored: its operation, its number count, and nine numbers
+abbrev pub firstSix : List ℕ → ℕ → Operation → Numbers → List ℕ
+firstSix w p operation ns =
+    numberPut (numberPut (numberPut (numberPut (operationPut w p operation (ns .count)) p 0 (ns .n0)) p 1 (ns .n1)) p 2 (ns .n2)) p 3 (ns .n3)
 
 abbrev pub lastFive : List ℕ → ℕ → Numbers → List ℕ
-lastFive w at ns =
-    set (set (set (set (set w (at + 6) (ns .n4)) (at + 7) (ns .n5)) (at + 8) (ns .n6)) (at + 9) (ns .n7)) (at + 10) (ns .n8)
+lastFive w p ns = numberPut (numberPut (numberPut (numberPut (numberPut w p 4 (ns .n4)) p 5 (ns .n5)) p 6 (ns .n6)) p 7 (ns .n7)) p 8 (ns .n8)
 
 -- the nine numbers of a line, with those that it has not
 abbrev pub nineOf : Numbers → List ℕ

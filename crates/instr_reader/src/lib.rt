@@ -2,52 +2,50 @@
 ghost use mathlib.Core.Path.{_≡_};
 ghost use Prim.Native.Nat.{_≤_, _<_, _+_};
 ghost use lib.ListN.{length};
-ghost use Rattle.sheet_rules.specs.Keys.{codeOf};
 ghost use Rattle.table.specs.Layout.{workSize};
-ghost use Rattle.table.specs.View.{instrFrom};
+ghost use Rattle.table.specs.View.{operationCode, instrFrom};
 ghost use Rattle.line_reader.specs.Told.{Room};
 ghost use Rattle.instr_reader.specs.Reads.{firstSix, lastFive, nineOf, StoredInstr, InstrRead, InstrsRead};
 use judges::LineJudged;
 use lexer::LineRead;
 use lexer::Numbers;
 use line_reader::Progress;
-use sheet_rules::Key;
+use sheet_rules::Operation;
 use sheet_rules::Reason;
+use table::stores::put_number;
+use table::stores::put_operation;
 
-// An instruction's first six numbers: its key's code, its number count, and the numbers 0 to 3.
-fn store_head(work: &mut [u16], at: usize, code: u16, numbers: Numbers)
-    requires { ⌜ (at + 11 ≤ length (now work)) × (numbers .count ≤ 9) ⌝ }
-    ensures { λ r. ⌜ now (work .exit) ≡ firstSix (now (work .entry)) at code numbers ⌝ }
+// An instruction's operation, its number count, and the numbers 0 to 3.
+fn store_head(work: &mut [u16], p: usize, operation: Operation, numbers: Numbers)
+    requires { ⌜ (p < 1024) × (numbers .count ≤ 9) × (workSize ≤ length (now work)) ⌝ }
+    ensures { λ r. ⌜ now (work .exit) ≡ firstSix (now (work .entry)) p operation numbers ⌝ }
 {
-    table::put(work, at, code);
-    table::put(work, at + 1, numbers.count as u16);
-    table::put(work, at + 2, numbers.n0);
-    table::put(work, at + 3, numbers.n1);
-    table::put(work, at + 4, numbers.n2);
-    table::put(work, at + 5, numbers.n3);
+    put_operation(work, p, operation, numbers.count as u16);
+    put_number(work, p, 0, numbers.n0);
+    put_number(work, p, 1, numbers.n1);
+    put_number(work, p, 2, numbers.n2);
+    put_number(work, p, 3, numbers.n3);
 }
 
-// An instruction's last five numbers: the numbers 4 to 8.
-fn store_tail(work: &mut [u16], at: usize, numbers: Numbers)
-    requires { ⌜ at + 11 ≤ length (now work) ⌝ }
-    ensures { λ r. ⌜ now (work .exit) ≡ lastFive (now (work .entry)) at numbers ⌝ }
+// An instruction's numbers 4 to 8.
+fn store_tail(work: &mut [u16], p: usize, numbers: Numbers)
+    requires { ⌜ (p < 1024) × (workSize ≤ length (now work)) ⌝ }
+    ensures { λ r. ⌜ now (work .exit) ≡ lastFive (now (work .entry)) p numbers ⌝ }
 {
-    table::put(work, at + 6, numbers.n4);
-    table::put(work, at + 7, numbers.n5);
-    table::put(work, at + 8, numbers.n6);
-    table::put(work, at + 9, numbers.n7);
-    table::put(work, at + 10, numbers.n8);
+    put_number(work, p, 4, numbers.n4);
+    put_number(work, p, 5, numbers.n5);
+    put_number(work, p, 6, numbers.n6);
+    put_number(work, p, 7, numbers.n7);
+    put_number(work, p, 8, numbers.n8);
 }
 
 // Stores an instruction line as instruction p of the pool.
-fn store_instr(work: &mut [u16], p: usize, key: Key, numbers: Numbers)
+fn store_instr(work: &mut [u16], p: usize, operation: Operation, numbers: Numbers)
     requires { ⌜ (p < 1024) × (numbers .count ≤ 9) × (workSize ≤ length (now work)) ⌝ }
-    ensures { λ r. ⌜ StoredInstr p (instrFrom (codeOf key) (numbers .count) (nineOf numbers)) (now (work .entry)) (now (work .exit)) ⌝ }
+    ensures { λ r. ⌜ StoredInstr p (instrFrom (operationCode operation) (numbers .count) (nineOf numbers)) (now (work .entry)) (now (work .exit)) ⌝ }
 {
-    let facts = judges::key_facts(key);
-    let at = table::instrs::instr_address(p);
-    store_head(work, at, facts.code as u16, numbers);
-    store_tail(work, at, numbers);
+    store_head(work, p, operation, numbers);
+    store_tail(work, p, numbers);
 }
 
 // Instruction p of the pool, read from a place of the text, with so many slots filled.
@@ -63,15 +61,21 @@ fn read_instr(
     requires { ⌜ Room (now text) at line × (p < 1024) × (workSize ≤ length (now work)) ⌝ }
     ensures { λ r. ⌜ InstrRead (now (text .entry)) p forms filled at line (now (work .entry)) (now (work .exit)) r ⌝ }
 {
-    let LineRead::Line { key, numbers, next } = lexer::read_line(text, at) else {
+    let LineRead::Line {
+        place,
+        numbers,
+        next,
+    } = lexer::read_line(text, at)
+    else {
         return Progress::Refused {
             reason: Reason::Malformed,
             line,
         };
     };
-    match instr_judge::instr_line(forms, filled, key, numbers) {
+    match instr_judge::instr_line(forms, filled, place, numbers) {
         LineJudged::Good => {
-            store_instr(work, p, key, numbers);
+            let operation = instr_judge::operation_of(place);
+            store_instr(work, p, operation, numbers);
             Progress::Moved {
                 at: next,
                 line: line + 1,

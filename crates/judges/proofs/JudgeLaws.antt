@@ -1,48 +1,36 @@
 -- The judgements test by test: what each exit of the code's judges stands on. Assumes nothing.
-use Prim.Native.Nat.{ℕ, zero, suc, _≤_, _<_}
+use Prim.Native.Nat.{ℕ, zero, suc, _≤_}
 use native.Mathlib.Omega.{arith}
-use mathlib.Core.Path.{_≡_, refl, sym, ap, subst}
+use mathlib.Core.Path.{_≡_, refl, sym, ap, _∙_, subst}
 use mathlib.Core.Bool.{Bool, true, false, _&&_}
 use mathlib.Core.List.{[], _∷_}
-use lib.Dec.{T, eqb, leb, leb→le, lit≤}
-use lib.ListN.{length, take}
-use lib.Seq.{length-take-le}
-use Rattle.lists.proofs.Tests.{and-left, and-right}
-use borrow.Author.Tests.{eq-eqb, ne-eqb, le-leb, lt-leb}
-use Rattle.sheet_rules.specs.declared.Key.{Key}
-use Rattle.sheet_rules.specs.declared.Key.the-variants.{Types, Row, Def, Var, Forms, Form, Keep, Init, Body, Main, New, Call, Get, Put, Copy, Unknown}
+use lib.Dec.{T, leb, leb→le, lit≤}
+use lib.ListN.{take}
+use Rattle.lists.proofs.Tests.{and-left}
+use Rattle.sheet_rules.specs.declared.Place.{Place}
+use Rattle.sheet_rules.specs.declared.Place.the-variants.{Types, Row, Member, Forms, Form, Keep, Init, Body, Main, Instruction, Nowhere}
 use Rattle.sheet_rules.specs.declared.Reason.{Reason}
-use Rattle.sheet_rules.specs.Keys.{codeOf, countOf, hasKey}
+use Rattle.sheet_rules.specs.Keys.{countOf, samePlace, takes, stands}
 use Rattle.sheet_rules.specs.Reader.{Judged, bad, demand, nth}
+use Rattle.sheet_rules.proofs.KeysLaws.{fewest-one}
 use Rattle.lexer.specs.declared.Numbers.{Numbers}
-use Rattle.lexer.specs.Scan.{listOf}
+use Rattle.lexer.specs.Scan.{listOf, Fitting}
+use Rattle.lexer.proofs.LineLaws.{length-listOf}
 
--- as many numbers as are counted
-pub length-listOf : (ns : Numbers) → ns .count ≤ 9 → length (listOf ns) ≡ ns .count
-unfolding listOf
-length-listOf ns h = length-take-le (ns .count) _ (omega arith)
+-- a line that the lexer gave is asked for its place alone
+pub stands-place : (w k : Place) (ns : Numbers) → Fitting k ns → stands w k (listOf ns) ≡ samePlace k w
+stands-place w k ns h =
+    ap (λ (b : Bool). samePlace k w && b) (ap (takes k) (length-listOf ns (h .few)) ∙ h .fit) ∙ and-true (samePlace k w)
+  where
+    and-true : (a : Bool) → a && true ≡ a
+    and-true true = refl
+    and-true false = refl
 
--- the three tests of a key
-
-module _ (w k : Key) (ns : Numbers) (h : ns .count ≤ 9) where
-  pub hasKey-other : (codeOf k ≡ codeOf w → ⊥) → hasKey w k (listOf ns) ≡ false
-  hasKey-other ne = simp (ne-eqb (codeOf k) (codeOf w) ne)
-
-  pub hasKey-few : codeOf k ≡ codeOf w → ns .count < (countOf w) .fewest → hasKey w k (listOf ns) ≡ false
-  hasKey-few e f =
-      simp (length-listOf ns h, eq-eqb (codeOf k) (codeOf w) e, lt-leb ((countOf w) .fewest) (ns .count) f)
-
-  pub hasKey-rest : codeOf k ≡ codeOf w → (countOf w) .fewest ≤ ns .count → hasKey w k (listOf ns) ≡ leb (ns .count) ((countOf w) .most)
-  hasKey-rest e f =
-      simp (length-listOf ns h, eq-eqb (codeOf k) (codeOf w) e, le-leb ((countOf w) .fewest) (ns .count) f)
-
-  hasKey-count : hasKey w k (listOf ns) ≡ true → (countOf w) .fewest ≤ ns .count
-  hasKey-count e =
-      leb→le ((countOf w) .fewest) (ns .count)
-      (subst (λ (n : ℕ). T (leb ((countOf w) .fewest) n)) (length-listOf ns h)
-      (and-right (eqb (codeOf k) (codeOf w)) (leb ((countOf w) .fewest) (length (listOf ns)))
-      (and-left (eqb (codeOf k) (codeOf w) && leb ((countOf w) .fewest) (length (listOf ns))) (leb (length (listOf ns)) ((countOf w) .most))
-      (subst T (sym e) tt))))
+-- it has as many numbers as its key asks for
+pub fitting-fewest : (k : Place) (ns : Numbers) → Fitting k ns → (countOf k) .fewest ≤ ns .count
+fitting-fewest k ns h =
+    leb→le ((countOf k) .fewest) (ns .count)
+    (and-left (leb ((countOf k) .fewest) (ns .count)) (leb (ns .count) ((countOf k) .most)) (subst T (sym (h .fit)) tt))
 
 -- the first numbers of a line
 
@@ -62,43 +50,52 @@ third-number (suc zero) a b c d e f g h i m = absurd (omega arith)
 third-number (suc (suc zero)) a b c d e f g h i m = absurd (omega arith)
 third-number (suc (suc (suc n))) a b c d e f g h i m = refl
 
--- every key asks for a number
-fewest-one : (k : Key) → 1 ≤ (countOf k) .fewest
-fewest-one Types = lit≤ tt
-fewest-one Row = lit≤ tt
-fewest-one Def = lit≤ tt
-fewest-one Var = lit≤ tt
-fewest-one Forms = lit≤ tt
-fewest-one Form = lit≤ tt
-fewest-one Keep = lit≤ tt
-fewest-one Init = lit≤ tt
-fewest-one Body = lit≤ tt
-fewest-one Main = lit≤ tt
-fewest-one New = lit≤ tt
-fewest-one Call = lit≤ tt
-fewest-one Get = lit≤ tt
-fewest-one Put = lit≤ tt
-fewest-one Copy = lit≤ tt
-fewest-one Unknown = lit≤ tt
-
-module _ (w k : Key) (ns : Numbers) (h : ns .count ≤ 9) (e : hasKey w k (listOf ns) ≡ true) where
+module _ (k : Place) (ns : Numbers) (h : Fitting k ns) where
   pub number-first : nth (listOf ns) 0 ≡ ns .n0
   unfolding listOf
   number-first =
       first-number (ns .count) (ns .n0) (ns .n1) (ns .n2) (ns .n3) (ns .n4) (ns .n5) (ns .n6) (ns .n7) (ns .n8)
-      (omega (arith, fewest-one w, hasKey-count w k ns h e))
+      (omega (arith, fewest-one k, fitting-fewest k ns h))
 
-  pub number-second : 2 ≤ (countOf w) .fewest → nth (listOf ns) 1 ≡ ns .n1
+  pub number-second : 2 ≤ (countOf k) .fewest → nth (listOf ns) 1 ≡ ns .n1
   unfolding listOf
   number-second m =
       second-number (ns .count) (ns .n0) (ns .n1) (ns .n2) (ns .n3) (ns .n4) (ns .n5) (ns .n6) (ns .n7) (ns .n8)
-      (omega (arith, hasKey-count w k ns h e))
+      (omega (arith, fitting-fewest k ns h))
 
-  pub number-third : 3 ≤ (countOf w) .fewest → nth (listOf ns) 2 ≡ ns .n2
+  pub number-third : 3 ≤ (countOf k) .fewest → nth (listOf ns) 2 ≡ ns .n2
   unfolding listOf
   number-third m =
       third-number (ns .count) (ns .n0) (ns .n1) (ns .n2) (ns .n3) (ns .n4) (ns .n5) (ns .n6) (ns .n7) (ns .n8)
-      (omega (arith, hasKey-count w k ns h e))
+      (omega (arith, fitting-fewest k ns h))
+
+-- the headings have two numbers
+
+pub two-of-row : (k : Place) → T (samePlace k Place.Row) → 2 ≤ (countOf k) .fewest
+two-of-row Types t = absurd t
+two-of-row Row t = lit≤ tt
+two-of-row (Member kind) t = absurd t
+two-of-row Forms t = absurd t
+two-of-row Form t = absurd t
+two-of-row Keep t = absurd t
+two-of-row Init t = absurd t
+two-of-row Body t = absurd t
+two-of-row Main t = absurd t
+two-of-row (Instruction operation) t = absurd t
+two-of-row Nowhere t = absurd t
+
+pub two-of-form : (k : Place) → T (samePlace k Place.Form) → 2 ≤ (countOf k) .fewest
+two-of-form Types t = absurd t
+two-of-form Row t = absurd t
+two-of-form (Member kind) t = absurd t
+two-of-form Forms t = absurd t
+two-of-form Form t = lit≤ tt
+two-of-form Keep t = absurd t
+two-of-form Init t = absurd t
+two-of-form Body t = absurd t
+two-of-form Main t = absurd t
+two-of-form (Instruction operation) t = absurd t
+two-of-form Nowhere t = absurd t
 
 -- a demand by its test
 

@@ -1,36 +1,25 @@
 -- What the code's answers tell, in the rules' words. Stands on the rules' judgements.
 use Prim.Native.Nat.{ℕ, suc, _≤_}
 use mathlib.Core.Path.{_≡_}
-use mathlib.Core.Bool.{not, _&&_}
+use mathlib.Core.Bool.{true, not, _&&_}
 use mathlib.Core.List.{List, [], _∷_, _++_}
 use lib.Dec.{eqb, leb}
 use lib.ListN.{length}
-use Rattle.sheet_rules.specs.declared.Key.{Key}
+use Rattle.sheet_rules.specs.declared.MemberKind.{MemberKind}
+use Rattle.sheet_rules.specs.declared.Place.{Place}
 use Rattle.sheet_rules.specs.declared.Member.{Member}
-use Rattle.sheet_rules.specs.Keys.{codeOf, countOf}
+use Rattle.sheet_rules.specs.Keys.{samePlace, memberKind}
 use Rattle.lexer.specs.declared.Numbers.{Numbers}
+use Rattle.lexer.specs.Scan.{Fitting}
 use Rattle.sheet_rules.specs.declared.Reason.{Reason}
 use Rattle.sheet_rules.specs.declared.Reason.the-variants.{DuplicateRow, NotDefined}
 use Rattle.sheet_rules.specs.Sheet.{Row}
 use Rattle.sheet_rules.specs.Reader.{Judged, good, bad, demand}
 use Rattle.sheet_rules.specs.RowLines.{Heading, kindOf, twin, ascends, memberOf, mentionsBelow}
 use Rattle.sheet_rules.specs.FormLines.{FormHeading}
-use Rattle.judges.specs.declared.KeyFacts.{KeyFacts}
 use Rattle.judges.specs.declared.NumberJudged.{NumberJudged}
 use Rattle.judges.specs.declared.PairJudged.{PairJudged}
 use Rattle.judges.specs.declared.LineJudged.{LineJudged}
-
--- a key's facts from three numbers
-abbrev pub factsFrom : ℕ → ℕ → ℕ → KeyFacts
-factsFrom code fewest most = record { code = code; fewest = fewest; most = most }
-
--- a key's code and number count, from the rules' table
-unfoldable pub factsOf : Key → KeyFacts
-factsOf k = factsFrom (codeOf k) ((countOf k) .fewest) ((countOf k) .most)
-
--- a key that a sheet may have
-abbrev pub Known : Key → Type 0
-Known w = codeOf w ≡ 15 → ⊥
 
 -- a line with one number, judged
 abbrev pub numberTold : NumberJudged → Judged ℕ
@@ -59,22 +48,22 @@ abbrev pub lineTold : {A : Type 0} → LineJudged → Judged A → Judged A
 lineTold LineJudged.Good x = x
 lineTold (LineJudged.Refused r) x = bad r
 
+-- a member's line, as the lexer gives it
+pub record MemberShaped (k : Place) (ns : Numbers) : Type 0 where
+  pub fitting : Fitting k ns
+  pub member : samePlace k (Place.Member MemberKind.Method) ≡ true
+
 -- the least name that ascends after some members
 abbrev pub Lowest : List Member → ℕ → Type 0
 Lowest before lowest = (n : ℕ) → ascends before n ≡ leb lowest n
 
--- what is asked of a member line after its key, its name and their order: that the row that it completes has no twin, and that
+-- what is asked of a member line after its place, its name and their order: that the row that it completes has no twin, and that
 -- the rows it mentions are lower
-unfoldable pub memberRest : List Row → Heading → List Member → Key → List ℕ → Judged Member
+unfoldable pub memberRest : List Row → Heading → List Member → Place → List ℕ → Judged Member
 memberRest earlier h before k ns =
     demand
     (not
     (eqb (suc (length before)) (h .count)
-    && twin earlier (record { kind = h .kind; members = before ++ (memberOf k ns ∷ []) })))
+    && twin earlier (record { kind = h .kind; members = before ++ (memberOf (memberKind k) ns ∷ []) })))
     DuplicateRow
-    (demand (mentionsBelow (length earlier) (memberOf k ns)) NotDefined (good (memberOf k ns)))
-
--- the numbers of a member line: a method's three, or a field's two
-pub data MemberShaped (k : Key) (ns : Numbers) : Type 0 where
-  method : codeOf k ≡ codeOf Key.Def → ns .count ≡ 3 → MemberShaped k ns
-  field : codeOf k ≡ codeOf Key.Var → ns .count ≡ 2 → MemberShaped k ns
+    (demand (mentionsBelow (length earlier) (memberOf (memberKind k) ns)) NotDefined (good (memberOf (memberKind k) ns)))

@@ -1,34 +1,22 @@
-// The judgement of one line by its key and numbers, in the order of the refusals' numbers.
+// The judgement of one line by its place and numbers, in the order of the refusals' numbers.
 ghost use mathlib.Core.Path.{_≡_};
 ghost use Prim.Native.Nat.{_≤_, _<_, _+_};
-ghost use Rattle.sheet_rules.specs.Keys.{hasKey};
+ghost use Rattle.sheet_rules.specs.Keys.{placeNumber, samePlace, memberKind};
 ghost use Rattle.sheet_rules.specs.Reader.{countLine, existingLine};
 ghost use mathlib.Core.List.{List};
 ghost use Rattle.sheet_rules.specs.Sheet.{Row as RowRule};
-ghost use mathlib.Core.Bool.{_||_};
+ghost use mathlib.Core.Bool.{true};
 ghost use Rattle.sheet_rules.specs.declared.Member.{Member as MemberRule};
+ghost use Rattle.sheet_rules.specs.declared.MemberKind.{MemberKind as MemberKindRule};
+ghost use Rattle.sheet_rules.specs.declared.Place.{Place as PlaceRule};
 ghost use Rattle.sheet_rules.specs.RowLines.{Heading, rowLine, memberLine};
 ghost use Rattle.sheet_rules.specs.FormLines.{formLine, bodyLine};
-ghost use Rattle.lexer.specs.Scan.{listOf};
-ghost use Rattle.judges.specs.Told.{factsFrom, factsOf, numberTold, rowTold, formTold, AtMost8, lineTold, Lowest, memberRest, MemberShaped};
+ghost use Rattle.lexer.specs.Scan.{listOf, Fitting};
+ghost use Rattle.judges.specs.Told.{numberTold, rowTold, formTold, AtMost8, lineTold, Lowest, memberRest};
 use lexer::Numbers;
-use sheet_rules::Key;
+use sheet_rules::MemberKind;
+use sheet_rules::Place;
 use sheet_rules::Reason;
-
-// A key's code, and the fewest and most numbers that it takes.
-pub struct KeyFacts {
-    pub code: u32,
-    pub fewest: u32,
-    pub most: u32,
-}
-
-impl KeyFacts {
-    fn of(code: u32, fewest: u32, most: u32) -> KeyFacts
-        ensures { λ r. ⌜ r ≡ factsFrom code fewest most ⌝ }
-    {
-        KeyFacts { code, fewest, most }
-    }
-}
 
 // A line with one number, judged.
 pub enum NumberJudged {
@@ -48,53 +36,55 @@ pub enum LineJudged {
     Refused { reason: Reason },
 }
 
-// The key is matched to its code and its number count.
-pub fn key_facts(key: Key) -> KeyFacts
-    ensures { λ r. ⌜ r ≡ factsOf key ⌝ }
+// A number for each place, so that two can be compared.
+fn place_number(place: Place) -> u32
+    ensures { λ r. ⌜ r ≡ placeNumber place ⌝ }
 {
-    match key {
-        Key::Types => KeyFacts::of(0, 1, 1),
-        Key::Row => KeyFacts::of(1, 2, 2),
-        Key::Def => KeyFacts::of(2, 3, 3),
-        Key::Var => KeyFacts::of(3, 2, 2),
-        Key::Forms => KeyFacts::of(4, 1, 1),
-        Key::Form => KeyFacts::of(5, 2, 2),
-        Key::Keep => KeyFacts::of(6, 1, 1),
-        Key::Init => KeyFacts::of(7, 1, 1),
-        Key::Body => KeyFacts::of(8, 1, 1),
-        Key::Main => KeyFacts::of(9, 1, 1),
-        Key::New => KeyFacts::of(10, 1, 9),
-        Key::Call => KeyFacts::of(11, 3, 3),
-        Key::Get => KeyFacts::of(12, 1, 1),
-        Key::Put => KeyFacts::of(13, 2, 2),
-        Key::Copy => KeyFacts::of(14, 1, 1),
-        Key::Unknown => KeyFacts::of(15, 1, 0),
+    match place {
+        Place::Types => 0,
+        Place::Row => 1,
+        Place::Member { .. } => 2,
+        Place::Forms => 3,
+        Place::Form => 4,
+        Place::Keep => 5,
+        Place::Init => 6,
+        Place::Body => 7,
+        Place::Main => 8,
+        Place::Instruction { .. } => 9,
+        Place::Nowhere => 10,
     }
 }
 
-// The line has the wanted key, with as many numbers as it asks for.
-pub fn has_key(wanted: Key, key: Key, numbers: Numbers) -> bool
-    requires { ⌜ numbers .count ≤ 9 ⌝ }
-    ensures { λ r. ⌜ r ≡ hasKey wanted key (listOf numbers) ⌝ }
+// Two places are the same, whichever of its keys it is.
+pub fn same_place(place: Place, wanted: Place) -> bool
+    ensures { λ r. ⌜ r ≡ samePlace place wanted ⌝ }
 {
-    let w = key_facts(wanted);
-    let k = key_facts(key);
-    let count = numbers.count;
-    if k.code == w.code {
-        if w.fewest <= count {
-            return count <= w.most;
-        }
-    }
-    false
+    place_number(place) == place_number(wanted)
+}
+
+// Which kind of member a key of that place makes.
+pub fn member_kind(place: Place) -> MemberKind
+    ensures { λ r. ⌜ r ≡ memberKind place ⌝ }
+{
+    let Place::Member { kind } = place else {
+        return MemberKind::Field;
+    };
+    kind
 }
 
 // `types=T` and `forms=F`: a count within its limits.
-pub fn count_line(wanted: Key, low: u16, high: u16, key: Key, numbers: Numbers) -> NumberJudged
-    requires { ⌜ numbers .count ≤ 9 ⌝ }
-    ensures { λ r. ⌜ numberTold r ≡ countLine wanted low high key (listOf numbers) ⌝ }
+pub fn count_line(
+    wanted: Place,
+    low: u16,
+    high: u16,
+    place: Place,
+    numbers: Numbers,
+) -> NumberJudged
+    requires { ⌜ Fitting place numbers ⌝ }
+    ensures { λ r. ⌜ numberTold r ≡ countLine wanted low high place (listOf numbers) ⌝ }
 {
-    let shaped = has_key(wanted, key, numbers);
-    if !shaped {
+    let here = same_place(place, wanted);
+    if !here {
         return NumberJudged::Refused {
             reason: Reason::Malformed,
         };
@@ -114,12 +104,12 @@ pub fn count_line(wanted: Key, low: u16, high: u16, key: Key, numbers: Numbers) 
 }
 
 // `keep=T` and `init=k`: the number of something that is there.
-pub fn existing_line(wanted: Key, there: u16, key: Key, numbers: Numbers) -> NumberJudged
-    requires { ⌜ numbers .count ≤ 9 ⌝ }
-    ensures { λ r. ⌜ numberTold r ≡ existingLine wanted there key (listOf numbers) ⌝ }
+pub fn existing_line(wanted: Place, there: u16, place: Place, numbers: Numbers) -> NumberJudged
+    requires { ⌜ Fitting place numbers ⌝ }
+    ensures { λ r. ⌜ numberTold r ≡ existingLine wanted there place (listOf numbers) ⌝ }
 {
-    let shaped = has_key(wanted, key, numbers);
-    if !shaped {
+    let here = same_place(place, wanted);
+    if !here {
         return NumberJudged::Refused {
             reason: Reason::Malformed,
         };
@@ -134,12 +124,12 @@ pub fn existing_line(wanted: Key, there: u16, key: Key, numbers: Numbers) -> Num
 }
 
 // `body=I` and `main=I`, after so many instructions of the sheet.
-pub fn body_line(wanted: Key, used: u16, key: Key, numbers: Numbers) -> NumberJudged
-    requires { ⌜ numbers .count ≤ 9 ⌝ }
-    ensures { λ r. ⌜ numberTold r ≡ bodyLine wanted used key (listOf numbers) ⌝ }
+pub fn body_line(wanted: Place, used: u16, place: Place, numbers: Numbers) -> NumberJudged
+    requires { ⌜ Fitting place numbers ⌝ }
+    ensures { λ r. ⌜ numberTold r ≡ bodyLine wanted used place (listOf numbers) ⌝ }
 {
-    let shaped = has_key(wanted, key, numbers);
-    if !shaped {
+    let here = same_place(place, wanted);
+    if !here {
         return NumberJudged::Refused {
             reason: Reason::Malformed,
         };
@@ -164,12 +154,12 @@ pub fn body_line(wanted: Key, used: u16, key: Key, numbers: Numbers) -> NumberJu
 }
 
 // `type=K,M`, but for the test whether the row has a twin.
-pub fn row_line(key: Key, numbers: Numbers) -> PairJudged
-    requires { ⌜ numbers .count ≤ 9 ⌝ }
-    ensures { λ r. ⌜ ((earlier : List RowRule) → rowTold earlier r ≡ rowLine earlier key (listOf numbers)) × AtMost8 r ⌝ }
+pub fn row_line(place: Place, numbers: Numbers) -> PairJudged
+    requires { ⌜ Fitting place numbers ⌝ }
+    ensures { λ r. ⌜ ((earlier : List RowRule) → rowTold earlier r ≡ rowLine earlier place (listOf numbers)) × AtMost8 r ⌝ }
 {
-    let shaped = has_key(Key::Row, key, numbers);
-    if !shaped {
+    let here = same_place(place, Place::Row);
+    if !here {
         return PairJudged::Refused {
             reason: Reason::Malformed,
         };
@@ -190,12 +180,12 @@ pub fn row_line(key: Key, numbers: Numbers) -> PairJudged
 }
 
 // `form=T,C`, in a sheet of so many rows.
-pub fn form_line(rows: u16, key: Key, numbers: Numbers) -> PairJudged
-    requires { ⌜ numbers .count ≤ 9 ⌝ }
-    ensures { λ r. ⌜ (formTold r ≡ formLine rows key (listOf numbers)) × AtMost8 r ⌝ }
+pub fn form_line(rows: u16, place: Place, numbers: Numbers) -> PairJudged
+    requires { ⌜ Fitting place numbers ⌝ }
+    ensures { λ r. ⌜ (formTold r ≡ formLine rows place (listOf numbers)) × AtMost8 r ⌝ }
 {
-    let shaped = has_key(Key::Form, key, numbers);
-    if !shaped {
+    let here = same_place(place, Place::Form);
+    if !here {
         return PairJudged::Refused {
             reason: Reason::Malformed,
         };
@@ -215,25 +205,19 @@ pub fn form_line(rows: u16, key: Key, numbers: Numbers) -> PairJudged
     PairJudged::Pair { first, second }
 }
 
-// The line has the key of a member, with its numbers.
-fn is_member(key: Key, numbers: Numbers) -> bool
-    requires { ⌜ numbers .count ≤ 9 ⌝ }
-    ensures { λ r. ⌜ r ≡ (hasKey Key.Def key (listOf numbers) || hasKey Key.Var key (listOf numbers)) ⌝ }
-{
-    if has_key(Key::Def, key, numbers) {
-        return true;
-    }
-    has_key(Key::Var, key, numbers)
-}
-
 // A member line, where the least name that ascends is given: but for the tests of the whole row.
-pub fn member_line(lowest: u32, key: Key, numbers: Numbers) -> LineJudged
-    requires { ⌜ numbers .count ≤ 9 ⌝ }
-    ensures { λ r. ⌜ ((earlier : List RowRule) (h : Heading) (before : List MemberRule) → Lowest before lowest → lineTold r (memberRest earlier h before key (listOf numbers)) ≡ memberLine earlier h before key (listOf numbers)) ⌝ }
-    ensures named { λ r. ⌜ (r ≡ LineJudged.Good → MemberShaped key numbers) ⌝ }
+pub fn member_line(lowest: u32, place: Place, numbers: Numbers) -> LineJudged
+    requires { ⌜ Fitting place numbers ⌝ }
+    ensures { λ r. ⌜ ((earlier : List RowRule) (h : Heading) (before : List MemberRule) → Lowest before lowest → lineTold r (memberRest earlier h before place (listOf numbers)) ≡ memberLine earlier h before place (listOf numbers)) ⌝ }
+    ensures named { λ r. ⌜ (r ≡ LineJudged.Good → samePlace place (PlaceRule.Member MemberKindRule.Method) ≡ true) ⌝ }
 {
-    let shaped = is_member(key, numbers);
-    if !shaped {
+    let here = same_place(
+        place,
+        Place::Member {
+            kind: MemberKind::Method,
+        },
+    );
+    if !here {
         return LineJudged::Refused {
             reason: Reason::Malformed,
         };

@@ -5,7 +5,7 @@ use mathlib.Core.Path.{_≡_, sym, ap, _∙_, subst}
 use mathlib.Core.List.{List}
 use lib.ListN.{length, drop, set}
 use lib.Seq.{getD-set-same}
-use Rattle.sheet_rules.specs.declared.Key.{Key}
+use Rattle.sheet_rules.specs.declared.Place.{Place}
 use Rattle.sheet_rules.specs.declared.Reason.{Reason}
 use Rattle.sheet_rules.specs.Lines.{linesOf}
 use Rattle.sheet_rules.specs.Reader.{got, one, existingLine}
@@ -18,7 +18,7 @@ use Rattle.keep_reader.specs.Reads.{KeepRead}
 
 -- by what the line's reader gave
 module _ (text : List ℕ) (f j rows at n : ℕ) (w : List ℕ) (p : NumberLine)
-    (told : numberRead text p ≡ one (existingLine Key.Keep rows) (linesOf (drop at text)) n) where
+    (told : numberRead text p ≡ one (existingLine Place.Keep rows) (linesOf (drop at text)) n) where
   pub keep-read : workSize ≤ length w → (v at′ n′ : ℕ) → p ≡ NumberLine.Number v at′ n′ → Onward text at n p
       → (w′ : List ℕ) → w′ ≡ set w (keepAddress f j) v → KeepRead text f j rows at n w w′ (Progress.Moved at′ n′)
   keep-read size v at′ n′ e o w′ stored =

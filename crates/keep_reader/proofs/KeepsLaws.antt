@@ -3,7 +3,7 @@ use Prim.Native.Nat.{ℕ, _+_, _≤_, _<_}
 use native.Mathlib.Omega.{arith}
 use mathlib.Core.List.{List}
 use Rattle.lists.proofs.TabLaws.{tab-ext}
-use Rattle.sheet_rules.specs.declared.Key.{Key}
+use Rattle.sheet_rules.specs.declared.Place.{Place}
 use Rattle.sheet_rules.specs.Reader.{Reader, one, existingLine}
 use Rattle.table.specs.Layout.{formAddress, keepAddress}
 use Rattle.table.specs.View.{cell}
@@ -15,7 +15,7 @@ use Rattle.keep_reader.specs.Reads.{KeepRead}
 module _ (text : List ℕ) (f count rows from first : ℕ) (w₀ : List ℕ) where
   -- the rule's item, and what the table holds of it
   abbrev pub item : List ℕ → Reader ℕ
-  item before = one (existingLine Key.Keep rows)
+  item before = one (existingLine Place.Keep rows)
 
   abbrev pub value : List ℕ → ℕ → ℕ
   value x j = cell x (keepAddress f j)

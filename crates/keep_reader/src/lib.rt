@@ -6,7 +6,7 @@ ghost use Rattle.line_reader.specs.Told.{Room};
 ghost use Rattle.table.specs.Layout.{workSize};
 use line_reader::NumberLine;
 use line_reader::Progress;
-use sheet_rules::Key;
+use sheet_rules::Place;
 
 // Kept row j of form f, read from a place of the text, in a sheet of so many rows.
 fn read_keep(
@@ -21,7 +21,7 @@ fn read_keep(
     requires { ⌜ Room (now text) at line × (f < 64) × (j < 8) × (workSize ≤ length (now work)) ⌝ }
     ensures { λ r. ⌜ KeepRead (now (text .entry)) f j rows at line (now (work .entry)) (now (work .exit)) r ⌝ }
 {
-    match line_reader::read_existing(text, at, line, Key::Keep, rows) {
+    match line_reader::read_existing(text, at, line, Place::Keep, rows) {
         NumberLine::Number {
             value,
             at: next,

@@ -9,10 +9,12 @@ use mathlib.Core.List.{List, [], _∷_, reverse, reverseAux, reverse-reverse}
 use lib.Dec.{T, eqb, leb, eqb→eq, eqb-refl, leb→le}
 use lib.ListN.{length}
 use Rattle.lists.proofs.Tests.{and-left, and-right, and-intro, T-ext}
-use Rattle.sheet_rules.specs.declared.Key.{Key}
-use Rattle.sheet_rules.specs.declared.Key.the-variants.{Types, Row, Def, Var, Forms, Form, Keep, Init, Body, Main, New, Call, Get, Put, Copy, Unknown}
-use Rattle.sheet_rules.specs.Keys.{bytes, spelling, allKeys, sameBytes, keyAmong, keyOf}
-use Rattle.lexer.specs.Scan.{wordCode, codeAmong, keyOfCode}
+use Rattle.sheet_rules.specs.declared.Place.{Place}
+use Rattle.sheet_rules.specs.declared.Place.the-variants.{Types, Row, Member, Forms, Form, Keep, Init, Body, Main, Instruction, Nowhere}
+use Rattle.sheet_rules.specs.declared.MemberKind.the-variants.{Method, Field}
+use Rattle.sheet_rules.specs.declared.Operation.the-variants.{New, Call, Get, Put, Copy}
+use Rattle.sheet_rules.specs.Keys.{bytes, spelling, allPlaces, sameBytes, placeAmong, placeOf}
+use Rattle.lexer.specs.Scan.{wordCode, codeAmong, placeOfCode}
 
 -- small letters
 
@@ -30,29 +32,29 @@ pub letter-high : (b : ℕ) → T (isLetter b) → b ≤ 122
 letter-high b t = leb→le b 122 (and-right (leb 97 b) (leb b 122) t)
 
 -- every key is spelled by at most five letters
-spelled : (k : Key) → T (allLetters (spelling k) && leb (length (spelling k)) 5)
-unfolding spelling bytes allLetters
+spelled : (k : Place) → T (allLetters (spelling k) && leb (length (spelling k)) 5)
+unfolding bytes allLetters
 spelled Types = tt
 spelled Row = tt
-spelled Def = tt
-spelled Var = tt
+spelled (Member Method) = tt
+spelled (Member Field) = tt
 spelled Forms = tt
 spelled Form = tt
 spelled Keep = tt
 spelled Init = tt
 spelled Body = tt
 spelled Main = tt
-spelled New = tt
-spelled Call = tt
-spelled Get = tt
-spelled Put = tt
-spelled Copy = tt
-spelled Unknown = tt
+spelled (Instruction New) = tt
+spelled (Instruction Call) = tt
+spelled (Instruction Get) = tt
+spelled (Instruction Put) = tt
+spelled (Instruction Copy) = tt
+spelled Nowhere = tt
 
-pub spelling-letters : (k : Key) → T (allLetters (spelling k))
+pub spelling-letters : (k : Place) → T (allLetters (spelling k))
 spelling-letters k = and-left (allLetters (spelling k)) (leb (length (spelling k)) 5) (spelled k)
 
-pub spelling-short : (k : Key) → length (spelling k) ≤ 5
+pub spelling-short : (k : Place) → length (spelling k) ≤ 5
 spelling-short k = leb→le (length (spelling k)) 5 (and-right (allLetters (spelling k)) (leb (length (spelling k)) 5) (spelled k))
 
 -- the same bytes are the same word
@@ -74,21 +76,21 @@ sameBytes-refl (b ∷ u) = and-intro (eqb b b) (sameBytes u u) (eqb-refl b) (sam
 
 -- a word that no key has
 
-keyAmong-unknown : (ks : List Key) (w : List ℕ) → ((k : Key) → spelling k ≡ w → ⊥) → keyAmong ks w ≡ Unknown
-unfolding keyAmong
-keyAmong-unknown [] w h = refl
-keyAmong-unknown (k ∷ ks) w h = go (sameBytes (spelling k) w) refl (keyAmong-unknown ks w h)
+placeAmong-nowhere : (ks : List Place) (w : List ℕ) → ((k : Place) → spelling k ≡ w → ⊥) → placeAmong ks w ≡ Nowhere
+unfolding placeAmong
+placeAmong-nowhere [] w h = refl
+placeAmong-nowhere (k ∷ ks) w h = go (sameBytes (spelling k) w) refl (placeAmong-nowhere ks w h)
   where
-    go : (b : Bool) → sameBytes (spelling k) w ≡ b → keyAmong ks w ≡ Unknown → cond b k (keyAmong ks w) ≡ Unknown
+    go : (b : Bool) → sameBytes (spelling k) w ≡ b → placeAmong ks w ≡ Nowhere → cond b k (placeAmong ks w) ≡ Nowhere
     go true e r = absurd (h k (sameBytes-eq (spelling k) w (subst T (sym e) tt)))
     go false e r = r
 
-pub keyOf-no-letters : (w : List ℕ) → (T (allLetters w) → ⊥) → keyOf w ≡ Unknown
-keyOf-no-letters w h = keyAmong-unknown allKeys w (λ k e. h (subst (λ (u : List ℕ). T (allLetters u)) e (spelling-letters k)))
+pub placeOf-no-letters : (w : List ℕ) → (T (allLetters w) → ⊥) → placeOf w ≡ Nowhere
+placeOf-no-letters w h = placeAmong-nowhere allPlaces w (λ k e. h (subst (λ (u : List ℕ). T (allLetters u)) e (spelling-letters k)))
 
-pub keyOf-long : (w : List ℕ) → 5 < length w → keyOf w ≡ Unknown
-keyOf-long w h =
-    keyAmong-unknown allKeys w (λ k e. let s : length w ≤ 5 = subst (λ (u : List ℕ). length u ≤ 5) e (spelling-short k) in omega arith)
+pub placeOf-long : (w : List ℕ) → 5 < length w → placeOf w ≡ Nowhere
+placeOf-long w h =
+    placeAmong-nowhere allPlaces w (λ k e. let s : length w ≤ 5 = subst (λ (u : List ℕ). length u ≤ 5) e (spelling-short k) in omega arith)
 
 -- the number of a word, last letter first
 
@@ -146,8 +148,8 @@ wordCode-unique u w s t p =
 
 -- the key of a word's number is the key of the word
 
-codeAmong-word : (ks : List Key) (w : List ℕ) → T (allLetters w) → codeAmong ks (wordCode 0 w) ≡ keyAmong ks w
-unfolding codeAmong keyAmong
+codeAmong-word : (ks : List Place) (w : List ℕ) → T (allLetters w) → codeAmong ks (wordCode 0 w) ≡ placeAmong ks w
+unfolding codeAmong placeAmong
 codeAmong-word [] w t = refl
 codeAmong-word (k ∷ ks) w t =
     ap (λ (b : Bool). cond b k (codeAmong ks (wordCode 0 w))) same ∙ ap (cond (sameBytes (spelling k) w) k) (codeAmong-word ks w t)
@@ -160,6 +162,6 @@ codeAmong-word (k ∷ ks) w t =
         (λ p. subst (λ (u : List ℕ). T (eqb (wordCode 0 u) (wordCode 0 (spelling k)))) (sameBytes-eq (spelling k) w p)
         (eqb-refl (wordCode 0 (spelling k))))
 
-pub keyOfCode-word : (w : List ℕ) → T (allLetters w) → keyOfCode (wordCode 0 w) ≡ keyOf w
-unfolding keyOfCode
-keyOfCode-word w t = codeAmong-word allKeys w t
+pub placeOfCode-word : (w : List ℕ) → T (allLetters w) → placeOfCode (wordCode 0 w) ≡ placeOf w
+unfolding placeOfCode
+placeOfCode-word w t = codeAmong-word allPlaces w t

@@ -1,38 +1,55 @@
 -- Scanning a line's key, byte by byte: it finds the letters before the equal sign, or loses a line that no place takes.
 -- Assumes nothing.
-use Prim.Native.Nat.{ℕ, suc, _+_, _*_, _-_, _≤_, _<_}
+use Prim.Native.Nat.{ℕ, zero, suc, _+_, _*_, _-_, _≤_, _<_}
 use native.Mathlib.Omega.{arith}
 use native.Mathlib.Decide.{decLe}
 use mathlib.Core.Path.{_≡_, refl, sym, ap, _∙_, subst}
-use mathlib.Core.Bool.{Bool, true, false, cond}
+use mathlib.Core.Bool.{Bool, true, false, cond, _&&_}
 use mathlib.Core.List.{List, [], _∷_, _++_}
 use lib.Dec.{T, eqb, leb, ltb}
 use lib.ListN.{length, length-append}
 use lib.Seq.{append-snoc}
-use borrow.Author.Tests.{le-leb, ltb-true, ltb-false, eqb-true, eqb-false}
+use borrow.Author.Tests.{le-leb, lt-leb, ltb-true, ltb-false, eqb-true, eqb-false}
 use Rattle.lists.proofs.Tests.{and-left, and-right, and-intro}
-use Rattle.sheet_rules.specs.declared.Key.{Key}
-use Rattle.sheet_rules.specs.Keys.{keyOf}
+use Rattle.sheet_rules.specs.declared.Place.{Place}
+use Rattle.sheet_rules.specs.Keys.{countOf, placeOf, takes}
 use Rattle.sheet_rules.specs.Lines.{newline, comma, equals, inFront, splitOn, allDecimals, values, Line, line, torn, numbered, keyed, lineOf}
+use Rattle.sheet_rules.proofs.KeysLaws.{most-nine}
 use Rattle.lexer.specs.declared.KeyRead.{KeyRead}
 use Rattle.lexer.specs.Scan.{codeLimit, keyScan, wordCode}
 use Rattle.lexer.proofs.DecimalLaws.{glue, glue-step, splitOn-other, Lacks}
 use Rattle.lexer.proofs.NumberScan.{split-form}
-use Rattle.lexer.proofs.KeyLaws.{isLetter, allLetters, letter-low, letter-high, keyOf-no-letters, keyOf-long}
+use Rattle.lexer.proofs.KeyLaws.{isLetter, allLetters, letter-low, letter-high, placeOf-no-letters, placeOf-long}
 
--- a line that no place takes: not in the sheet's shape, of an unknown key, or with more numbers than any key has
+-- a line that no place takes: not in the sheet's shape, or with a number count that its key does not take
 pub data Hopeless : Line → Type 0 where
   is-torn : Hopeless torn
-  unknown : {k : Key} {ns : List ℕ} → k ≡ Key.Unknown → Hopeless (line k ns)
-  too-many : {k : Key} {ns : List ℕ} → 9 < length ns → Hopeless (line k ns)
+  unfit : {k : Place} {ns : List ℕ} → takes k (length ns) ≡ false → Hopeless (line k ns)
+
+fails-right : (a : Bool) {b : Bool} → b ≡ false → a && b ≡ false
+fails-right true e = e
+fails-right false e = refl
+
+-- so no place takes a line of an unknown word
+unknown : {k : Place} {ns : List ℕ} → k ≡ Place.Nowhere → Hopeless (line k ns)
+unknown {ns = ns} e = unfit (ap (λ (k : Place). takes k (length ns)) e ∙ none (length ns))
+  where
+    none : (n : ℕ) → takes Place.Nowhere n ≡ false
+    none zero = refl
+    none (suc n) = fails-right (leb 1 (suc n)) (lt-leb (suc n) 0 (omega arith))
+
+-- nor one with more numbers than any key has
+pub too-many : {k : Place} {ns : List ℕ} → 9 < length ns → Hopeless (line k ns)
+too-many {k} {ns} h =
+    unfit (fails-right (leb ((countOf k) .fewest) (length ns)) (lt-leb (length ns) ((countOf k) .most) (omega (arith, most-nine k))))
 
 -- a first piece that spells no key
-keyed-hopeless : (w : List ℕ) (ps : List (List ℕ)) → keyOf w ≡ Key.Unknown → Hopeless (keyed (w ∷ ps))
+keyed-hopeless : (w : List ℕ) (ps : List (List ℕ)) → placeOf w ≡ Place.Nowhere → Hopeless (keyed (w ∷ ps))
 unfolding keyed numbered
 keyed-hopeless w [] e = is-torn
 keyed-hopeless w (v ∷ []) e = go (allDecimals (splitOn comma v))
   where
-    go : (b : Bool) → Hopeless (cond b (line (keyOf w) (values (splitOn comma v))) torn)
+    go : (b : Bool) → Hopeless (cond b (line (placeOf w) (values (splitOn comma v))) torn)
     go true = unknown e
     go false = is-torn
 keyed-hopeless w (v ∷ u ∷ ps) e = is-torn
@@ -80,7 +97,7 @@ glue-form w c x = let r = split-form c x in (r .0, r .1, ap (glue w) (r .2))
 
 -- a line whose key goes on after letters w with a byte b that is no equal sign, where no such word is a key
 lost-word : (w : List ℕ) (b : ℕ) (q : List ℕ) → T (allLetters w) → (b ≡ equals → ⊥)
-    → ((p : List ℕ) → keyOf (w ++ (b ∷ []) ++ p) ≡ Key.Unknown) → Hopeless (lineOf (w ++ (b ∷ q)))
+    → ((p : List ℕ) → placeOf (w ++ (b ∷ []) ++ p) ≡ Place.Nowhere) → Hopeless (lineOf (w ++ (b ∷ q)))
 unfolding lineOf
 lost-word w b q t ne h =
     let r = glue-form (w ++ (b ∷ [])) equals q in
@@ -179,7 +196,7 @@ key-scanned (b ∷ q) l rest w t h c i e =
 
     no-letter : (b ≡ equals → ⊥) → (T (isLetter b) → ⊥) → Hopeless (lineOf (w ++ (b ∷ q)))
     no-letter ne nl =
-        lost-word w b q t ne (λ p. keyOf-no-letters (w ++ (b ∷ []) ++ p) (λ s. nl (letters-last w b (letters-front (w ++ (b ∷ [])) p s))))
+        lost-word w b q t ne (λ p. placeOf-no-letters (w ++ (b ∷ []) ++ p) (λ s. nl (letters-last w b (letters-front (w ++ (b ∷ [])) p s))))
 
     go : (T (isLetter b) → length (w ++ (b ∷ [])) ≤ 5 → KeyScanned (w ++ (b ∷ [])) q (i + 1) Rest)
         → (x1 : Bool) → eqb b equals ≡ x1 → (x2 : Bool) → ltb b 97 ≡ x2 → (x3 : Bool) → ltb 122 b ≡ x3 → (x4 : Bool) → ltb c codeLimit ≡ x4
@@ -203,7 +220,7 @@ key-scanned (b ∷ q) l rest w t h c i e =
         room (no p) =
             absurd (let y : codeLimit ≤ wordCode 0 w = code-full w t (omega arith) in let z = ltb-true c codeLimit e4 in omega arith)
     go more false e1 false e2 false e3 false e4 =
-        no-key (lost-word w b q t (eqb-false b equals e1) (λ p. keyOf-long (w ++ (b ∷ []) ++ p) (long p (decLe (length w) 4))))
+        no-key (lost-word w b q t (eqb-false b equals e1) (λ p. placeOf-long (w ++ (b ∷ []) ++ p) (long p (decLe (length w) 4))))
       where
         long : (p : List ℕ) → Dec (length w ≤ 4) → 5 < length (w ++ (b ∷ []) ++ p)
         long p (yes k) =

@@ -9,9 +9,9 @@ use lib.ListN.{length, drop, length-append, length-drop}
 use lib.Seq.{drop-drop, drop-at, append-snoc}
 use borrow.Author.Tests.{ne-eqb}
 use Rattle.lists.proofs.Tests.{T→true}
-use Rattle.sheet_rules.specs.declared.Key.{Key}
+use Rattle.sheet_rules.specs.declared.Place.{Place}
 use Rattle.sheet_rules.specs.Limits.{decimalLimit}
-use Rattle.sheet_rules.specs.Keys.{keyOf}
+use Rattle.sheet_rules.specs.Keys.{placeOf, takes}
 use Rattle.sheet_rules.specs.Lines.{newline, comma, equals, digit0, digit9, splitOn, allDecimals, values, Line, line, torn, numbered, lineOf, linesOf}
 use Rattle.lexer.specs.declared.Part.{Part}
 use Rattle.lexer.specs.declared.Part.the-variants.{Empty, Zero, Digits}
@@ -21,13 +21,13 @@ use Rattle.lexer.specs.declared.Numbers.{Numbers}
 use Rattle.lexer.specs.declared.NumbersRead.{NumbersRead}
 use Rattle.lexer.specs.declared.KeyRead.{KeyRead}
 use Rattle.lexer.specs.declared.LineRead.{LineRead}
-use Rattle.lexer.specs.Scan.{endTurn, turnOf, noNumbers, withNumber, listOf, onTurn, numbersScan, keyScan, wordCode, keyOfCode, lineAt}
+use Rattle.lexer.specs.Scan.{endTurn, turnOf, noNumbers, withNumber, listOf, onTurn, numbersScan, keyScan, wordCode, placeOfCode, lineAt}
 use Rattle.lexer.proofs.ScanSteps.{key-later, line-no-key, line-no-numbers, line-whole}
 use Rattle.lexer.proofs.DecimalLaws.{Lacks, Scanned, found, lost, none-yet}
 use Rattle.lexer.proofs.NumberScan.{glue-none, scanned}
-use Rattle.lexer.proofs.KeyLaws.{allLetters, keyOfCode-word}
-use Rattle.lexer.proofs.KeyScan.{Hopeless, is-torn, too-many, KeyScanned, letters, no-key, key-scanned}
-use Rattle.lexer.proofs.LineLaws.{Refusing, hopeless, Found, a-line, no-line, lines-first, lines-open, Cut, ended, open-end, cut, line-of-word}
+use Rattle.lexer.proofs.KeyLaws.{allLetters, placeOfCode-word}
+use Rattle.lexer.proofs.KeyScan.{Hopeless, is-torn, unfit, too-many, KeyScanned, letters, no-key, key-scanned}
+use Rattle.lexer.proofs.LineLaws.{Refusing, hopeless, Found, a-line, no-line, length-listOf, lines-first, lines-open, Cut, ended, open-end, cut, line-of-word}
 
 -- a line that nothing ends
 
@@ -118,7 +118,7 @@ numbers-lost : (u : List ℕ) (ps : List (List ℕ)) → (T (allDecimals ps) →
 unfolding numbered
 numbers-lost u ps h = go (allDecimals ps) refl
   where
-    go : (x : Bool) → allDecimals ps ≡ x → Hopeless (cond x (line (keyOf u) (values ps)) torn)
+    go : (x : Bool) → allDecimals ps ≡ x → Hopeless (cond x (line (placeOf u) (values ps)) torn)
     go true e = too-many {ns = values ps} (omega (arith, h (subst T (sym e) tt), length-values ps))
     go false e = is-torn
 
@@ -126,9 +126,9 @@ none-listed : (xs : List ℕ) → listOf noNumbers ++ xs ≡ xs
 unfolding listOf
 none-listed xs = refl
 
-numbered-line : (u : List ℕ) (ps : List (List ℕ)) → T (allDecimals ps) → numbered u ps ≡ line (keyOf u) (values ps)
+numbered-line : (u : List ℕ) (ps : List (List ℕ)) → T (allDecimals ps) → numbered u ps ≡ line (placeOf u) (values ps)
 unfolding numbered
-numbered-line u ps t = ap (λ (x : Bool). cond x (line (keyOf u) (values ps)) torn) (T→true (allDecimals ps) t)
+numbered-line u ps t = ap (λ (x : Bool). cond x (line (placeOf u) (values ps)) torn) (T→true (allDecimals ps) t)
 
 module _ (text : List ℕ) (i : ℕ) (q rest : List ℕ) (e : drop i text ≡ q ++ (newline ∷ rest)) (l : Lacks newline q) where
   lines-here : linesOf (drop i text) ≡ lineOf q ∷ linesOf rest
@@ -158,12 +158,7 @@ module _ (text : List ℕ) (i : ℕ) (q rest : List ℕ) (e : drop i text ≡ q 
         subst (Found text i) (sym (line-no-numbers text i c j k f))
         (no-line (refusing-here (subst Hopeless (sym the-line) (numbers-lost u (splitOn comma v) g))))
     numbers-here (NumbersRead.Numbers ns m) f (found d g o n) =
-        subst (Found text i) (sym (line-whole text i c j ns m k f))
-        (a-line
-        (lines-here ∙ ap (λ (x : Line). x ∷ linesOf rest) whole ∙ ap (λ (x : List ℕ). line (keyOfCode c) (listOf ns) ∷ linesOf x) (sym past-it))
-        (omega arith)
-        (omega (arith, length-drop m text, ap length past-it, ap length after-equals, length-append v (newline ∷ rest), length-drop j text))
-        n)
+        go (takes (placeOfCode c) (ns .count)) refl
       where
         past-it : drop m text ≡ rest
         past-it =
@@ -171,11 +166,23 @@ module _ (text : List ℕ) (i : ℕ) (q rest : List ℕ) (e : drop i text ≡ q 
             (after-equals ∙ sym (append-snoc v newline rest))
             (let z : m ≡ j + length (v ++ (newline ∷ [])) = omega (arith, length-append v (newline ∷ [])) in z)
 
-        whole : lineOf q ≡ line (keyOfCode c) (listOf ns)
+        whole : lineOf q ≡ line (placeOfCode c) (listOf ns)
         whole =
             the-line ∙ numbered-line u (splitOn comma v) d
-            ∙ ap (λ (x : Key). line x (values (splitOn comma v))) (sym (ap keyOfCode p ∙ keyOfCode-word u t))
-            ∙ ap (line (keyOfCode c)) (sym (g ∙ none-listed (values (splitOn comma v))))
+            ∙ ap (λ (x : Place). line x (values (splitOn comma v))) (sym (ap placeOfCode p ∙ placeOfCode-word u t))
+            ∙ ap (line (placeOfCode c)) (sym (g ∙ none-listed (values (splitOn comma v))))
+
+        go : (b : Bool) → takes (placeOfCode c) (ns .count) ≡ b → Found text i (lineAt text i)
+        go true y =
+            subst (Found text i) (sym (line-whole text i c j ns m k f true y))
+            (a-line
+            (lines-here ∙ ap (λ (x : Line). x ∷ linesOf rest) whole ∙ ap (λ (x : List ℕ). line (placeOfCode c) (listOf ns) ∷ linesOf x) (sym past-it))
+            (omega arith)
+            (omega (arith, length-drop m text, ap length past-it, ap length after-equals, length-append v (newline ∷ rest), length-drop j text))
+            (record { few = n; fit = y }))
+        go false y =
+            subst (Found text i) (sym (line-whole text i c j ns m k f false y))
+            (no-line (refusing-here (subst Hopeless (sym whole) (unfit (ap (takes (placeOfCode c)) (length-listOf ns n) ∙ y)))))
 
   key-here : (r : KeyRead) → keyScan 0 i (drop i text) ≡ r → KeyScanned [] q i r → Found text i (lineAt text i)
   key-here KeyRead.Torn f (no-key h) = subst (Found text i) (sym (line-no-key text i f)) (no-line (refusing-here h))

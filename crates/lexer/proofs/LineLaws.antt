@@ -7,14 +7,15 @@ use mathlib.Core.Bool.{Bool, true, false, cond}
 use mathlib.Core.List.{List, [], _∷_, _++_, append-nil, head-eq-of-cons-eq, tail-eq-of-cons-eq, nil≢cons}
 use lib.Dec.{T, eqb}
 use lib.ListN.{length, drop}
+use lib.Seq.{length-take-le}
 use borrow.Author.Tests.{eq-eqb, eqb-true, eqb-false}
 use Rattle.lists.proofs.Tests.{and-right}
-use Rattle.sheet_rules.specs.declared.Key.{Key}
-use Rattle.sheet_rules.specs.Keys.{keyOf}
+use Rattle.sheet_rules.specs.declared.Place.{Place}
+use Rattle.sheet_rules.specs.Keys.{placeOf}
 use Rattle.sheet_rules.specs.Lines.{newline, comma, equals, inFront, splitOn, isDecimal, allDecimals, values, Line, line, torn, numbered, keyed, lineOf, unfinished, finished, linesOf}
 use Rattle.lexer.specs.declared.Numbers.{Numbers}
 use Rattle.lexer.specs.declared.LineRead.{LineRead}
-use Rattle.lexer.specs.Scan.{listOf}
+use Rattle.lexer.specs.Scan.{listOf, Fitting}
 use Rattle.lexer.proofs.DecimalLaws.{glue, glue-step, not-a-digit, splitOn-other, Lacks}
 use Rattle.lexer.proofs.NumberScan.{Class, is-comma, is-digit, is-other, classify, split-form, glue-none}
 use Rattle.lexer.proofs.KeyLaws.{allLetters}
@@ -27,9 +28,14 @@ pub data Refusing : List Line → Type 0 where
 
 -- what a line's reading at a place means for the lines there
 pub data Found (text : List ℕ) (i : ℕ) : LineRead → Type 0 where
-  a-line : {k : Key} {ns : Numbers} {j : ℕ} → linesOf (drop i text) ≡ line k (listOf ns) ∷ linesOf (drop j text) → i < j → j ≤ length text → ns .count ≤ 9
+  a-line : {k : Place} {ns : Numbers} {j : ℕ} → linesOf (drop i text) ≡ line k (listOf ns) ∷ linesOf (drop j text) → i < j → j ≤ length text → Fitting k ns
       → Found text i (LineRead.Line k ns j)
   no-line : Refusing (linesOf (drop i text)) → Found text i LineRead.Torn
+
+-- as many numbers as are counted
+pub length-listOf : (ns : Numbers) → ns .count ≤ 9 → length (listOf ns) ≡ ns .count
+unfolding listOf
+length-listOf ns h = length-take-le (ns .count) _ (omega arith)
 
 -- splitting where the byte does not stand
 
@@ -118,17 +124,17 @@ unfolding keyed numbered
 keyed-line u v = go (allDecimals (splitOn comma v)) refl (split-form equals v)
   where
     go : (x : Bool) → allDecimals (splitOn comma v) ≡ x → (p : List ℕ) × (ps : List (List ℕ)) × (splitOn equals v ≡ p ∷ ps)
-        → keyed (u ∷ splitOn equals v) ≡ cond (allDecimals (splitOn comma v)) (line (keyOf u) (values (splitOn comma v))) torn
+        → keyed (u ∷ splitOn equals v) ≡ cond (allDecimals (splitOn comma v)) (line (placeOf u) (values (splitOn comma v))) torn
     go true t r =
         ap (λ (ps : List (List ℕ)). keyed (u ∷ ps))
         (split-none equals v (decimals-lack v [] (subst T (sym (ap allDecimals (glue-none comma v) ∙ t)) tt)))
-    go false t r = pieces (r .0) (r .1) (r .2) ∙ sym (ap (λ (x : Bool). cond x (line (keyOf u) (values (splitOn comma v))) torn) t)
+    go false t r = pieces (r .0) (r .1) (r .2) ∙ sym (ap (λ (x : Bool). cond x (line (placeOf u) (values (splitOn comma v))) torn) t)
       where
         pieces : (p : List ℕ) (ps : List (List ℕ)) → splitOn equals v ≡ p ∷ ps → keyed (u ∷ splitOn equals v) ≡ torn
         pieces p [] e =
             ap (λ (ps : List (List ℕ)). keyed (u ∷ ps)) e
-            ∙ ap (λ (w : List ℕ). cond (allDecimals (splitOn comma w)) (line (keyOf u) (values (splitOn comma w))) torn) (split-single equals v p e)
-            ∙ ap (λ (x : Bool). cond x (line (keyOf u) (values (splitOn comma v))) torn) t
+            ∙ ap (λ (w : List ℕ). cond (allDecimals (splitOn comma w)) (line (placeOf u) (values (splitOn comma w))) torn) (split-single equals v p e)
+            ∙ ap (λ (x : Bool). cond x (line (placeOf u) (values (splitOn comma v))) torn) t
         pieces p (q ∷ ps) e = ap (λ (ps : List (List ℕ)). keyed (u ∷ ps)) e
 
 glue-equals : (u v : List ℕ) → glue u (splitOn equals (equals ∷ v)) ≡ u ∷ splitOn equals v

@@ -2,13 +2,15 @@
 use Prim.Native.Nat.{ℕ, suc, _+_, _*_, _-_, _≤_, _<_}
 use native.Mathlib.Numerals.{add-one}
 use native.Mathlib.Omega.{arith}
-use mathlib.Core.Path.{_≡_, refl, sym, ap, _∙_, subst}
-use mathlib.Core.Bool.{Bool, true, false, cond}
+use mathlib.Core.Path.{_≡_, refl, sym, ap, ap₂, _∙_, subst}
+use mathlib.Core.Bool.{Bool, true, false, cond, _&&_}
 use mathlib.Core.List.{List, [], _∷_}
 use lib.ListN.{length, getD, drop, drop-of-length-le, length-drop}
 use lib.Seq.{drop-cons}
 use lib.Dec.{eqb, ltb, leb}
-use borrow.Author.Tests.{lt-ltb, le-ltb, ltb-false, leb-true}
+use borrow.Author.Tests.{lt-ltb, le-ltb, ltb-false, leb-true, le-leb, lt-leb}
+use Rattle.sheet_rules.specs.declared.Place.{Place}
+use Rattle.sheet_rules.specs.Keys.{countOf, takes}
 use Rattle.sheet_rules.specs.Limits.{decimalLimit}
 use Rattle.sheet_rules.specs.Lines.{newline, comma, equals, digit0, digit9}
 use Rattle.lexer.specs.declared.Part.{Part}
@@ -18,8 +20,9 @@ use Rattle.lexer.specs.declared.Turn.the-variants.{More, Comma, End}
 use Rattle.lexer.specs.declared.Numbers.{Numbers}
 use Rattle.lexer.specs.declared.NumbersRead.{NumbersRead}
 use Rattle.lexer.specs.declared.KeyRead.{KeyRead}
+use Rattle.lexer.specs.declared.keys.KeyFacts.{KeyFacts}
 use Rattle.lexer.specs.declared.LineRead.{LineRead}
-use Rattle.lexer.specs.Scan.{PartFits, endTurn, turnOf, withNumber, onTurn, noNumbers, numbersScan, codeLimit, onLetter, keyScan, keyOfCode, withKey, afterKey, lineAt}
+use Rattle.lexer.specs.Scan.{PartFits, endTurn, turnOf, withNumber, onTurn, noNumbers, numbersScan, codeLimit, onLetter, keyScan, placeOfCode, factsOf, withKey, afterKey, lineAt}
 
 -- what is left of a text from a place on: its byte, and what is left from the next place on
 drop-next : (text : List ℕ) (i : ℕ) → i < length text → drop i text ≡ getD text i 0 ∷ drop (i + 1) text
@@ -154,9 +157,44 @@ module _ (text : List ℕ) (i : ℕ) where
   pub line-no-numbers : (c j : ℕ) → keyScan 0 i (drop i text) ≡ KeyRead.Letters c j
       → numbersScan noNumbers Empty j (drop j text) ≡ NumbersRead.Torn → lineAt text i ≡ LineRead.Torn
   unfolding lineAt
-  line-no-numbers c j e f = ap (afterKey text) e ∙ ap (withKey (keyOfCode c)) f
+  line-no-numbers c j e f = ap (afterKey text) e ∙ ap (withKey (placeOfCode c)) f
 
   pub line-whole : (c j : ℕ) (ns : Numbers) (k : ℕ) → keyScan 0 i (drop i text) ≡ KeyRead.Letters c j
-      → numbersScan noNumbers Empty j (drop j text) ≡ NumbersRead.Numbers ns k → lineAt text i ≡ LineRead.Line (keyOfCode c) ns k
+      → numbersScan noNumbers Empty j (drop j text) ≡ NumbersRead.Numbers ns k → (b : Bool) → takes (placeOfCode c) (ns .count) ≡ b
+      → lineAt text i ≡ cond b (LineRead.Line (placeOfCode c) ns k) LineRead.Torn
   unfolding lineAt
-  line-whole c j ns k e f = ap (afterKey text) e ∙ ap (withKey (keyOfCode c)) f
+  line-whole c j ns k e f b t =
+      ap (afterKey text) e ∙ ap (withKey (placeOfCode c)) f ∙ ap (λ (x : Bool). cond x (LineRead.Line (placeOfCode c) ns k) LineRead.Torn) t
+
+  -- by the key's own number count
+  module _ (c j : ℕ) (ns : Numbers) (k : ℕ) (e : keyScan 0 i (drop i text) ≡ KeyRead.Letters c j)
+      (f : numbersScan noNumbers Empty j (drop j text) ≡ NumbersRead.Numbers ns k) (key : KeyFacts) (h : key ≡ factsOf (placeOfCode c)) where
+    fewest-is : key .fewest ≡ (countOf (placeOfCode c)) .fewest
+    unfolding factsOf
+    fewest-is = ap (λ (x : KeyFacts). x .fewest) h
+
+    most-is : key .most ≡ (countOf (placeOfCode c)) .most
+    unfolding factsOf
+    most-is = ap (λ (x : KeyFacts). x .most) h
+
+    place-is : key .place ≡ placeOfCode c
+    unfolding factsOf
+    place-is = ap (λ (x : KeyFacts). x .place) h
+
+    pub line-few : ns .count < key .fewest → lineAt text i ≡ LineRead.Torn
+    line-few l =
+        line-whole c j ns k e f false
+        (ap (λ (b : Bool). b && leb (ns .count) ((countOf (placeOfCode c)) .most)) (lt-leb ((countOf (placeOfCode c)) .fewest) (ns .count) (omega (arith, fewest-is))))
+
+    pub line-many : key .fewest ≤ ns .count → key .most < ns .count → lineAt text i ≡ LineRead.Torn
+    line-many g l =
+        line-whole c j ns k e f false
+        (ap₂ (λ (a b : Bool). a && b) (le-leb ((countOf (placeOfCode c)) .fewest) (ns .count) (omega (arith, fewest-is)))
+        (lt-leb (ns .count) ((countOf (placeOfCode c)) .most) (omega (arith, most-is))))
+
+    pub line-fits : key .fewest ≤ ns .count → ns .count ≤ key .most → lineAt text i ≡ LineRead.Line (key .place) ns k
+    line-fits g l =
+        line-whole c j ns k e f true
+        (ap₂ (λ (a b : Bool). a && b) (le-leb ((countOf (placeOfCode c)) .fewest) (ns .count) (omega (arith, fewest-is)))
+        (le-leb (ns .count) ((countOf (placeOfCode c)) .most) (omega (arith, most-is))))
+        ∙ ap (λ (x : Place). LineRead.Line x ns k) (sym place-is)

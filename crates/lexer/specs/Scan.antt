@@ -1,13 +1,14 @@
 -- A line read byte by byte, as the code does it. LineFound proves that this finds the lines of the rules (sheet_rules, Lines).
 use Prim.Native.Nat.{ℕ, _+_, _*_, _-_, _≤_}
-use mathlib.Core.Bool.{cond}
+use mathlib.Core.Path.{_≡_}
+use mathlib.Core.Bool.{true, cond}
 use mathlib.Core.List.{List, [], _∷_}
 use lib.Dec.{eqb, leb, ltb}
 use lib.ListN.{take, drop}
-use Rattle.sheet_rules.specs.declared.Key.{Key}
+use Rattle.sheet_rules.specs.declared.Place.{Place}
 use Rattle.sheet_rules.specs.Lines.{newline, comma, equals, digit0, digit9}
 use Rattle.sheet_rules.specs.Limits.{decimalLimit}
-use Rattle.sheet_rules.specs.Keys.{spelling, allKeys}
+use Rattle.sheet_rules.specs.Keys.{countOf, spelling, allPlaces, takes}
 use Rattle.lexer.specs.declared.Part.{Part}
 use Rattle.lexer.specs.declared.Part.the-variants.{Empty, Zero, Digits}
 use Rattle.lexer.specs.declared.Turn.{Turn}
@@ -15,6 +16,7 @@ use Rattle.lexer.specs.declared.Turn.the-variants.{More, Comma, End}
 use Rattle.lexer.specs.declared.Numbers.{Numbers}
 use Rattle.lexer.specs.declared.NumbersRead.{NumbersRead}
 use Rattle.lexer.specs.declared.KeyRead.{KeyRead}
+use Rattle.lexer.specs.declared.keys.KeyFacts.{KeyFacts}
 use Rattle.lexer.specs.declared.LineRead.{LineRead}
 
 -- after a number of value v: a comma, the end of the line, or a byte that does not belong there
@@ -109,24 +111,37 @@ unfoldable pub wordCode : ℕ → List ℕ → ℕ
 wordCode c [] = c
 wordCode c (b ∷ bs) = wordCode (c * 27 + (b - 96)) bs
 
--- the first of some keys whose word has the code
-unfoldable pub codeAmong : List Key → ℕ → Key
-codeAmong [] c = Key.Unknown
+-- the first of some places whose key's word has the code
+unfoldable pub codeAmong : List Place → ℕ → Place
+codeAmong [] c = Place.Nowhere
 codeAmong (k ∷ ks) c = cond (eqb c (wordCode 0 (spelling k))) k (codeAmong ks c)
 
--- the key of a code
-unfoldable pub keyOfCode : ℕ → Key
-keyOfCode c = codeAmong allKeys c
+-- where a line may stand whose key has the code
+unfoldable pub placeOfCode : ℕ → Place
+placeOfCode c = codeAmong allPlaces c
 
--- a key, and what the numbers after it gave
-abbrev pub withKey : Key → NumbersRead → LineRead
+-- a key from its place and its number count
+abbrev pub factsFrom : Place → ℕ → ℕ → KeyFacts
+factsFrom k fewest most = record { place = k; fewest = fewest; most = most }
+
+-- the key of a place, with its number count from the rules' table
+unfoldable pub factsOf : Place → KeyFacts
+factsOf k = factsFrom k ((countOf k) .fewest) ((countOf k) .most)
+
+-- the place of a key, and what the numbers after it gave: a line, if the key takes as many
+abbrev pub withKey : Place → NumbersRead → LineRead
 withKey k NumbersRead.Torn = LineRead.Torn
-withKey k (NumbersRead.Numbers ns i) = LineRead.Line k ns i
+withKey k (NumbersRead.Numbers ns i) = cond (takes k (ns .count)) (LineRead.Line k ns i) LineRead.Torn
 
 abbrev pub afterKey : List ℕ → KeyRead → LineRead
 afterKey text KeyRead.Torn = LineRead.Torn
-afterKey text (KeyRead.Letters c i) = withKey (keyOfCode c) (numbersScan noNumbers Empty i (drop i text))
+afterKey text (KeyRead.Letters c i) = withKey (placeOfCode c) (numbersScan noNumbers Empty i (drop i text))
 
 -- the line of a text at a place
 unfoldable pub lineAt : List ℕ → ℕ → LineRead
 lineAt text i = afterKey text (keyScan 0 i (drop i text))
+
+-- what the lexer gives of a line: nine numbers at the most, and as many as the key of its place takes
+pub record Fitting (k : Place) (ns : Numbers) : Type 0 where
+  pub few : ns .count ≤ 9
+  pub fit : takes k (ns .count) ≡ true

@@ -2,8 +2,10 @@
 ghost use mathlib.Core.Path.{_≡_};
 ghost use Prim.Native.Nat.{_≤_, _<_};
 ghost use lib.ListN.{length, drop};
-ghost use Rattle.lexer.specs.Scan.{endTurn, digitTurn, firstTurn, turnOf, noNumbers, withNumber, atPlace, numbersScan, keyScan, keyOfCode, lineAt};
-use sheet_rules::Key;
+ghost use Rattle.lexer.specs.Scan.{endTurn, digitTurn, firstTurn, turnOf, noNumbers, withNumber, atPlace, numbersScan, keyScan, lineAt};
+use sheet_rules::Place;
+
+mod keys;
 
 // The number in progress: no digit yet, the number 0, or digits that do not begin with 0.
 pub enum Part {
@@ -46,10 +48,10 @@ pub enum KeyRead {
     Torn,
 }
 
-// A line in the sheet's shape, its key known or not, with at most nine numbers, and the place after it; or none that a place takes.
+// A line in the sheet's shape, with as many numbers as its key asks for: where it may stand, and where in the text it ends.
 pub enum LineRead {
     Line {
-        key: Key,
+        place: Place,
         numbers: Numbers,
         next: usize,
     },
@@ -233,31 +235,7 @@ fn read_key(text: &[u8], from: usize) -> KeyRead
     KeyRead::Torn
 }
 
-// The key of a code: each word's letters as digits of base 27.
-fn key_of(code: u32) -> Key
-    ensures { λ r. ⌜ r ≡ keyOfCode code ⌝ }
-{
-    match code {
-        11132713 => Key::Types,
-        412322 => Key::Row,
-        3057 => Key::Def,
-        16083 => Key::Var,
-        3497383 => Key::Forms,
-        129532 => Key::Form,
-        220309 => Key::Keep,
-        187616 => Key::Init,
-        50434 => Key::Body,
-        256865 => Key::Main,
-        10364 => Key::New,
-        60114 => Key::Call,
-        5258 => Key::Get,
-        12251 => Key::Put,
-        70441 => Key::Copy,
-        _ => Key::Unknown,
-    }
-}
-
-// The line of a text at a place.
+// The line of a text at a place. One whose key does not take its number count is given up: no place takes it.
 pub fn read_line(text: &[u8], from: usize) -> LineRead
     requires { ⌜ from ≤ length (now text) ⌝ }
     ensures { λ r. ⌜ r ≡ lineAt (now (text .entry)) from ⌝ }
@@ -272,8 +250,17 @@ pub fn read_line(text: &[u8], from: usize) -> LineRead
     else {
         return LineRead::Torn;
     };
+    let key = keys::key_of(code);
+    let count = numbers.count;
+    if count < key.fewest {
+        return LineRead::Torn;
+    }
+    if key.most < count {
+        return LineRead::Torn;
+    }
+    let place = key.place;
     LineRead::Line {
-        key: key_of(code),
+        place,
         numbers,
         next: after,
     }

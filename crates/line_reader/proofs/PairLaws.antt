@@ -4,7 +4,7 @@ use native.Mathlib.Omega.{arith}
 use mathlib.Core.Path.{_≡_, refl, sym, ap, _∙_, subst}
 use mathlib.Core.List.{List}
 use lib.ListN.{drop}
-use Rattle.sheet_rules.specs.declared.Key.{Key}
+use Rattle.sheet_rules.specs.declared.Place.{Place}
 use Rattle.sheet_rules.specs.declared.Reason.{Reason}
 use Rattle.sheet_rules.specs.declared.Reason.the-variants.{Malformed}
 use Rattle.sheet_rules.specs.Lines.{Line, linesOf}
@@ -23,7 +23,7 @@ unfolding settle
 settle-bad q ls n = refl
 
 module _ (text : List ℕ) (at n : ℕ) where
-  pub pair-onward : Room text at n → (k : Key) (ns : Numbers) (j : ℕ) → lineAt text at ≡ LineRead.Line k ns j → (jd : PairJudged) → AtMost8 jd
+  pub pair-onward : Room text at n → (k : Place) (ns : Numbers) (j : ℕ) → lineAt text at ≡ LineRead.Line k ns j → (jd : PairJudged) → AtMost8 jd
       → (r : PairLine) → r ≡ pairSettled jd j n → PairOnward text at n r
   pair-onward room k ns j e jd few r p = subst (PairOnward text at n) (sym p) (go jd few)
     where
@@ -36,13 +36,13 @@ module _ (text : List ℕ) (at n : ℕ) where
           PairOnward.moved (t .later) (record { small = room .small; inside = t .inside; lines = l }) h
       go (PairJudged.Refused q) none-there = PairOnward.stopped
 
-  module _ {A : Type 0} (judge : Key → List ℕ → Judged A) where
+  module _ {A : Type 0} (judge : Place → List ℕ → Judged A) where
     pub pair-torn : Strict judge → lineAt text at ≡ LineRead.Torn → refused Malformed n ≡ one judge (linesOf (drop at text)) n
     pair-torn st e = sym (one-torn text at judge st n e)
 
     -- a line, judged, by a telling that passes refusals on
     pub pair-read : (tell : PairJudged → Judged A) → ((q : Reason) → tell (PairJudged.Refused q) ≡ bad q)
-        → (k : Key) (ns : Numbers) (j : ℕ) → lineAt text at ≡ LineRead.Line k ns j
+        → (k : Place) (ns : Numbers) (j : ℕ) → lineAt text at ≡ LineRead.Line k ns j
         → (jd : PairJudged) → tell jd ≡ judge k (listOf ns) → (r : PairLine) → r ≡ pairSettled jd j n
         → pairRead text n tell r ≡ one judge (linesOf (drop at text)) n
     pair-read tell passes k ns j e jd q r p =

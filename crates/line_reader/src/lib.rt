@@ -9,11 +9,11 @@ ghost use Rattle.sheet_rules.specs.Reader.{one, countLine, existingLine};
 ghost use Rattle.sheet_rules.specs.RowLines.{rowLine};
 ghost use Rattle.sheet_rules.specs.FormLines.{formLine, bodyLine};
 ghost use Rattle.line_reader.specs.Told.{Room, settled, numberRead, Onward, pairSettled, pairRead, PairOnward};
-ghost use Rattle.judges.specs.Told.{Known, rowTold, formTold};
+ghost use Rattle.judges.specs.Told.{rowTold, formTold};
 use judges::NumberJudged;
 use judges::PairJudged;
 use lexer::LineRead;
-use sheet_rules::Key;
+use sheet_rules::Place;
 use sheet_rules::Reason;
 
 // A line with one number: the number and the place after the line, or the refusal.
@@ -58,53 +58,75 @@ fn number_line(judged: NumberJudged, at: usize, line: u32) -> NumberLine
 }
 
 // A count within its limits: `types=T` and `forms=F`.
-pub fn read_count(text: &[u8], at: usize, line: u32, wanted: Key, low: u16, high: u16) -> NumberLine
-    requires { ⌜ Room (now text) at line × Known wanted ⌝ }
+pub fn read_count(
+    text: &[u8],
+    at: usize,
+    line: u32,
+    wanted: Place,
+    low: u16,
+    high: u16,
+) -> NumberLine
+    requires { ⌜ Room (now text) at line ⌝ }
     ensures { λ r. ⌜ (numberRead (now (text .entry)) r ≡ one (countLine wanted low high) (linesOf (drop at (now (text .entry)))) line) × Onward (now (text .entry)) at line r ⌝ }
 {
-    let LineRead::Line { key, numbers, next } = lexer::read_line(text, at) else {
+    let LineRead::Line {
+        place,
+        numbers,
+        next,
+    } = lexer::read_line(text, at)
+    else {
         return NumberLine::Refused {
             reason: Reason::Malformed,
             line,
         };
     };
     number_line(
-        judges::count_line(wanted, low, high, key, numbers),
+        judges::count_line(wanted, low, high, place, numbers),
         next,
         line,
     )
 }
 
 // The number of something that is there: `keep=T` and `init=k`.
-pub fn read_existing(text: &[u8], at: usize, line: u32, wanted: Key, there: u16) -> NumberLine
-    requires { ⌜ Room (now text) at line × Known wanted ⌝ }
+pub fn read_existing(text: &[u8], at: usize, line: u32, wanted: Place, there: u16) -> NumberLine
+    requires { ⌜ Room (now text) at line ⌝ }
     ensures { λ r. ⌜ (numberRead (now (text .entry)) r ≡ one (existingLine wanted there) (linesOf (drop at (now (text .entry)))) line) × Onward (now (text .entry)) at line r ⌝ }
 {
-    let LineRead::Line { key, numbers, next } = lexer::read_line(text, at) else {
+    let LineRead::Line {
+        place,
+        numbers,
+        next,
+    } = lexer::read_line(text, at)
+    else {
         return NumberLine::Refused {
             reason: Reason::Malformed,
             line,
         };
     };
     number_line(
-        judges::existing_line(wanted, there, key, numbers),
+        judges::existing_line(wanted, there, place, numbers),
         next,
         line,
     )
 }
 
 // The instructions of a body or of main, after so many of the sheet.
-pub fn read_body(text: &[u8], at: usize, line: u32, wanted: Key, used: u16) -> NumberLine
-    requires { ⌜ Room (now text) at line × Known wanted ⌝ }
+pub fn read_body(text: &[u8], at: usize, line: u32, wanted: Place, used: u16) -> NumberLine
+    requires { ⌜ Room (now text) at line ⌝ }
     ensures { λ r. ⌜ (numberRead (now (text .entry)) r ≡ one (bodyLine wanted used) (linesOf (drop at (now (text .entry)))) line) × Onward (now (text .entry)) at line r ⌝ }
 {
-    let LineRead::Line { key, numbers, next } = lexer::read_line(text, at) else {
+    let LineRead::Line {
+        place,
+        numbers,
+        next,
+    } = lexer::read_line(text, at)
+    else {
         return NumberLine::Refused {
             reason: Reason::Malformed,
             line,
         };
     };
-    number_line(judges::body_line(wanted, used, key, numbers), next, line)
+    number_line(judges::body_line(wanted, used, place, numbers), next, line)
 }
 
 // Two judged numbers, with the place after their line.
@@ -128,13 +150,18 @@ pub fn read_row_head(text: &[u8], at: usize, line: u32) -> PairLine
     requires { ⌜ Room (now text) at line ⌝ }
     ensures { λ r. ⌜ ((earlier : List RowRule) → pairRead (now (text .entry)) line (rowTold earlier) r ≡ one (rowLine earlier) (linesOf (drop at (now (text .entry)))) line) × PairOnward (now (text .entry)) at line r ⌝ }
 {
-    let LineRead::Line { key, numbers, next } = lexer::read_line(text, at) else {
+    let LineRead::Line {
+        place,
+        numbers,
+        next,
+    } = lexer::read_line(text, at)
+    else {
         return PairLine::Refused {
             reason: Reason::Malformed,
             line,
         };
     };
-    pair_line(judges::row_line(key, numbers), next, line)
+    pair_line(judges::row_line(place, numbers), next, line)
 }
 
 // `form=T,C`, in a sheet of so many rows.
@@ -142,11 +169,16 @@ pub fn read_form_head(text: &[u8], at: usize, line: u32, rows: u16) -> PairLine
     requires { ⌜ Room (now text) at line ⌝ }
     ensures { λ r. ⌜ (pairRead (now (text .entry)) line formTold r ≡ one (formLine rows) (linesOf (drop at (now (text .entry)))) line) × PairOnward (now (text .entry)) at line r ⌝ }
 {
-    let LineRead::Line { key, numbers, next } = lexer::read_line(text, at) else {
+    let LineRead::Line {
+        place,
+        numbers,
+        next,
+    } = lexer::read_line(text, at)
+    else {
         return PairLine::Refused {
             reason: Reason::Malformed,
             line,
         };
     };
-    pair_line(judges::form_line(rows, key, numbers), next, line)
+    pair_line(judges::form_line(rows, place, numbers), next, line)
 }

@@ -8,7 +8,7 @@ use lib.Dec.{eqb}
 use lib.ListN.{length, drop}
 use Rattle.lists.proofs.Tests.{clash}
 use Rattle.lists.proofs.TabLaws.{length-tab}
-use Rattle.sheet_rules.specs.declared.Key.{Key}
+use Rattle.sheet_rules.specs.declared.Place.{Place}
 use Rattle.sheet_rules.specs.declared.Member.{Member}
 use Rattle.sheet_rules.specs.declared.Member.the-variants.{Method, Field}
 use Rattle.sheet_rules.specs.declared.Reason.{Reason}
@@ -49,7 +49,7 @@ module _ (text : List ℕ) (f j used at n : ℕ) (w : List ℕ) where
         used-then = λ a m u c. not-moved q l a m u c;
       }
 
-  module _ (keeps : ℕ) (p : NumberLine) (told : numberRead text p ≡ one (existingLine Key.Init keeps) (linesOf (drop at text)) n) where
+  module _ (keeps : ℕ) (p : NumberLine) (told : numberRead text p ≡ one (existingLine Place.Init keeps) (linesOf (drop at text)) n) where
     pub field-refused : (q : Reason) (l : ℕ) → p ≡ NumberLine.Refused q l → PartRead text f j used (fieldPart keeps) at n w w (PoolProgress.Refused q l)
     unfolding fieldPart
     field-refused q l e = part-refused (fieldPart keeps) q l (number-stop text _ (λ k. give (init k)) p told q l e)
@@ -170,14 +170,14 @@ module _ (text : List ℕ) (f j used at n : ℕ) (w : List ℕ) where
       (subst (λ (k : ℕ). InstrsRead text k number forms (keeps + 2) at n w₁ w′ r) es m))
 
   -- by what the `body` line's reader gave
-  module _ (forms keeps : ℕ) (p : NumberLine) (told : numberRead text p ≡ one (bodyLine Key.Body used) (linesOf (drop at text)) n) where
+  module _ (forms keeps : ℕ) (p : NumberLine) (told : numberRead text p ≡ one (bodyLine Place.Body used) (linesOf (drop at text)) n) where
     pub method-refused : (q : Reason) (l : ℕ) → p ≡ NumberLine.Refused q l → PartRead text f j used (methodPart forms keeps used) at n w w (PoolProgress.Refused q l)
     unfolding methodPart
     method-refused q l e = part-refused (methodPart forms keeps used) q l (number-stop text _ (bodyRest forms keeps) p told q l e)
 
     module _ (v at′ n′ : ℕ) (e : p ≡ NumberLine.Number v at′ n′) where
       room-for : Body.Room used v
-      room-for = number-gives text _ p told v at′ n′ e (Body.Room used) (gives-one (Body.Room used) (bodyLine Key.Body used) (bodyLine-room Key.Body used) (linesOf (drop at text)) n)
+      room-for = number-gives text _ p told v at′ n′ e (Body.Room used) (gives-one (Body.Room used) (bodyLine Place.Body used) (bodyLine-room Place.Body used) (linesOf (drop at text)) n)
 
       pub body-some : 1 ≤ v
       body-some = room-for .some

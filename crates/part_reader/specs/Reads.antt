@@ -2,7 +2,7 @@
 use Prim.Native.Nat.{ℕ, suc, _+_, _≤_}
 use mathlib.Core.Path.{_≡_}
 use mathlib.Core.List.{List}
-use Rattle.sheet_rules.specs.declared.Key.{Key}
+use Rattle.sheet_rules.specs.declared.Place.{Place}
 use Rattle.sheet_rules.specs.Sheet.{Part, init, body, sizeOfPart}
 use Rattle.sheet_rules.specs.Reader.{Reader, _>>=_, give, one, existingLine}
 use Rattle.sheet_rules.specs.FormLines.{bodyLine, readInstrs}
@@ -36,7 +36,7 @@ pub record PartRead (text : List ℕ) (f j used : ℕ) (part : Reader Part) (at 
 
 -- the rule's reader of a part, for a field
 unfoldable pub fieldPart : ℕ → Reader Part
-fieldPart keeps = one (existingLine Key.Init keeps) >>= λ k. give (init k)
+fieldPart keeps = one (existingLine Place.Init keeps) >>= λ k. give (init k)
 
 -- a body after its `body` line
 unfoldable pub bodyRest : ℕ → ℕ → ℕ → Reader Part
@@ -44,4 +44,4 @@ bodyRest forms keeps count = readInstrs forms (suc (suc keeps)) count >>= λ is.
 
 -- the rule's reader of a part, for a method
 unfoldable pub methodPart : ℕ → ℕ → ℕ → Reader Part
-methodPart forms keeps used = one (bodyLine Key.Body used) >>= bodyRest forms keeps
+methodPart forms keeps used = one (bodyLine Place.Body used) >>= bodyRest forms keeps

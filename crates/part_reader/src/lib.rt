@@ -8,8 +8,8 @@ ghost use Rattle.table.specs.Layout.{workSize};
 ghost use Rattle.part_reader.specs.Reads.{pooled, PartRead, fieldPart, methodPart, bodyRest};
 use line_reader::NumberLine;
 use line_reader::Progress;
-use sheet_rules::Key;
 use sheet_rules::Member;
+use sheet_rules::Place;
 use sheet_rules::Reason;
 use table::rows::wide;
 
@@ -44,7 +44,7 @@ fn read_field(
     requires { ⌜ Room (now text) at line × (f < 64) × (j < 8) × (used ≤ 1024) × (workSize ≤ length (now work)) ⌝ }
     ensures { λ r. ⌜ PartRead (now (text .entry)) f j used (fieldPart keeps) at line (now (work .entry)) (now (work .exit)) r ⌝ }
 {
-    match line_reader::read_existing(text, at, line, Key::Init, keeps) {
+    match line_reader::read_existing(text, at, line, Place::Init, keeps) {
         NumberLine::Number {
             value,
             at: next,
@@ -106,7 +106,7 @@ fn read_method(
     requires { ⌜ Room (now text) at line × (f < 64) × (j < 8) × (keeps ≤ 8) × (used ≤ 1024) × (workSize ≤ length (now work)) ⌝ }
     ensures { λ r. ⌜ PartRead (now (text .entry)) f j used (methodPart forms keeps used) at line (now (work .entry)) (now (work .exit)) r ⌝ }
 {
-    match line_reader::read_body(text, at, line, Key::Body, used) {
+    match line_reader::read_body(text, at, line, Place::Body, used) {
         NumberLine::Number {
             value,
             at: next,

@@ -9,7 +9,7 @@ use lib.ListN.{length, drop}
 use lib.Seq.{getD-set-same, getD-set-other}
 use Rattle.lists.proofs.TabLaws.{tab-ext}
 use Rattle.lists.proofs.Tests.{clash}
-use Rattle.sheet_rules.specs.declared.Key.{Key}
+use Rattle.sheet_rules.specs.declared.Place.{Place}
 use Rattle.sheet_rules.specs.declared.Reason.{Reason}
 use Rattle.sheet_rules.specs.declared.Reason.the-variants.{Malformed}
 use Rattle.sheet_rules.specs.declared.Verdict.{Verdict}
@@ -86,9 +86,9 @@ pub rest-refused : (q : Reason) (l : ℕ) (s : Sheet) (x : Read Sheet) (v : Verd
 rest-refused q l s x v ev ex = ap (λ (y : Verdict). verdictMeans y s) ev ∙ sym (ap conclude ex)
 
 module _ (text : List ℕ) (rows forms used at n : ℕ) (w : List ℕ) (ready : Ready rows w) (small : forms ≤ 64) (by : FormsUsed w forms used)
-    (p : NumberLine) (told : numberRead text p ≡ one (bodyLine Key.Main used) (linesOf (drop at text)) n) where
-  told-here : numberRead text p ≡ one (bodyLine Key.Main (sizeOfForms (formsIn w forms))) (linesOf (drop at text)) n
-  told-here = told ∙ ap (λ (u : ℕ). one (bodyLine Key.Main u) (linesOf (drop at text)) n) (by .counted)
+    (p : NumberLine) (told : numberRead text p ≡ one (bodyLine Place.Main used) (linesOf (drop at text)) n) where
+  told-here : numberRead text p ≡ one (bodyLine Place.Main (sizeOfForms (formsIn w forms))) (linesOf (drop at text)) n
+  told-here = told ∙ ap (λ (u : ℕ). one (bodyLine Place.Main u) (linesOf (drop at text)) n) (by .counted)
 
   pub main-refused : (q : Reason) (l : ℕ) → p ≡ NumberLine.Refused q l → (v : Verdict) → v ≡ Verdict.Refused q l
       → RestRead text (mainRest (rowsIn w rows) forms (formsIn w forms)) at n w w v
@@ -102,7 +102,7 @@ module _ (text : List ℕ) (rows forms used at n : ℕ) (w : List ℕ) (ready : 
 
   module _ (i at′ n′ : ℕ) (e : p ≡ NumberLine.Number i at′ n′) where
     room-for : Body.Room used i
-    room-for = number-gives text _ p told i at′ n′ e (Body.Room used) (gives-one (Body.Room used) (bodyLine Key.Main used) (bodyLine-room Key.Main used) (linesOf (drop at text)) n)
+    room-for = number-gives text _ p told i at′ n′ e (Body.Room used) (gives-one (Body.Room used) (bodyLine Place.Main used) (bodyLine-room Place.Main used) (linesOf (drop at text)) n)
 
     pub main-whole : used + i ≤ 1024
     main-whole = room-for .whole

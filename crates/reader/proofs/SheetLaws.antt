@@ -9,7 +9,7 @@ use lib.ListN.{length, drop}
 use borrow.Author.Tests.{le-leb, lt-leb}
 use Rattle.lists.proofs.TabLaws.{tab-ext}
 use Rattle.lists.proofs.Tests.{clash}
-use Rattle.sheet_rules.specs.declared.Key.{Key}
+use Rattle.sheet_rules.specs.declared.Place.{Place}
 use Rattle.sheet_rules.specs.declared.Reason.{Reason}
 use Rattle.sheet_rules.specs.declared.Reason.the-variants.{BufferTooShort, TextTooLong}
 use Rattle.sheet_rules.specs.declared.Verdict.{Verdict}
@@ -45,7 +45,7 @@ use Rattle.reader.proofs.MainLaws.{not-accepted, rest-refused}
 -- FORMS AND MAIN
 
 module _ (text : List ℕ) (rows at n : ℕ) (w : List ℕ) (ready : Ready rows w)
-    (p : NumberLine) (told : numberRead text p ≡ one (countLine Key.Forms 0 64) (linesOf (drop at text)) n) where
+    (p : NumberLine) (told : numberRead text p ≡ one (countLine Place.Forms 0 64) (linesOf (drop at text)) n) where
   pub forms-line-refused : (q : Reason) (l : ℕ) → p ≡ NumberLine.Refused q l → (v : Verdict) → v ≡ Verdict.Refused q l
       → RestRead text (rowsRest (rowsIn w rows)) at n w w v
   unfolding rowsRest
@@ -56,7 +56,7 @@ module _ (text : List ℕ) (rows at n : ℕ) (w : List ℕ) (ready : Ready rows 
     pub forms-few : f ≤ 64
     forms-few =
         (number-gives text _ p told f at′ n′ e (λ k. (0 ≤ k) × (k ≤ 64))
-        (gives-one (λ k. (0 ≤ k) × (k ≤ 64)) (countLine Key.Forms 0 64) (countLine-within Key.Forms 0 64) (linesOf (drop at text)) n)) .1
+        (gives-one (λ k. (0 ≤ k) × (k ≤ 64)) (countLine Place.Forms 0 64) (countLine-within Place.Forms 0 64) (linesOf (drop at text)) n)) .1
 
     told-forms : rowsRest (rowsIn w rows) (linesOf (drop at text)) n
         ≡ andThen (many f (readForm (rowsIn w rows) f) [] (linesOf (drop at′ text)) n′) (mainRest (rowsIn w rows) f)
@@ -105,12 +105,12 @@ module _ (text : List ℕ) (rows at n : ℕ) (w : List ℕ) (ready : Ready rows 
 -- A WHOLE SHEET
 
 sheet-rest : (ls : List Line) (n : ℕ)
-    → readSheet ls n ≡ andThen (one (countLine Key.Types 1 64) ls n) (λ t ls n. andThen (many t readRow [] ls n) rowsRest)
+    → readSheet ls n ≡ andThen (one (countLine Place.Types 1 64) ls n) (λ t ls n. andThen (many t readRow [] ls n) rowsRest)
 unfolding readSheet rowsRest formsRest mainRest instrsRest endRest
 sheet-rest ls n = refl
 
 module _ (text : List ℕ) (w : List ℕ) (size : workSize ≤ length w)
-    (p : NumberLine) (told : numberRead text p ≡ one (countLine Key.Types 1 64) (linesOf (drop 0 text)) 1) where
+    (p : NumberLine) (told : numberRead text p ≡ one (countLine Place.Types 1 64) (linesOf (drop 0 text)) 1) where
   pub types-refused : (q : Reason) (l : ℕ) → p ≡ NumberLine.Refused q l → (v : Verdict) → v ≡ Verdict.Refused q l → RestRead text readSheet 0 1 w w v
   types-refused q l e v ev =
       record {
@@ -125,7 +125,7 @@ module _ (text : List ℕ) (w : List ℕ) (size : workSize ≤ length w)
     pub types-few : t ≤ 64
     types-few =
         (number-gives text _ p told t at′ n′ e (λ k. (1 ≤ k) × (k ≤ 64))
-        (gives-one (λ k. (1 ≤ k) × (k ≤ 64)) (countLine Key.Types 1 64) (countLine-within Key.Types 1 64) (linesOf (drop 0 text)) 1)) .1
+        (gives-one (λ k. (1 ≤ k) × (k ≤ 64)) (countLine Place.Types 1 64) (countLine-within Place.Types 1 64) (linesOf (drop 0 text)) 1)) .1
 
     told-rows : readSheet (linesOf (drop 0 text)) 1 ≡ andThen (many t readRow [] (linesOf (drop at′ text)) n′) rowsRest
     told-rows = sheet-rest (linesOf (drop 0 text)) 1 ∙ number-then text _ (λ t ls n. andThen (many t readRow [] ls n) rowsRest) p told t at′ n′ e

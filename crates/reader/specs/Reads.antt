@@ -5,7 +5,7 @@ use mathlib.Core.Bool.{false, cond}
 use mathlib.Core.List.{List, []}
 use lib.Dec.{leb}
 use lib.ListN.{length, drop}
-use Rattle.sheet_rules.specs.declared.Key.{Key}
+use Rattle.sheet_rules.specs.declared.Place.{Place}
 use Rattle.sheet_rules.specs.declared.Reason.the-variants.{BufferTooShort}
 use Rattle.sheet_rules.specs.declared.Verdict.{Verdict}
 use Rattle.sheet_rules.specs.Limits.{formLimit}
@@ -48,13 +48,13 @@ unfoldable pub instrsRest : List Row → ℕ → List Form → ℕ → Reader Sh
 instrsRest rows f forms i = readInstrs f 0 i >>= endRest rows forms
 
 unfoldable pub mainRest : List Row → ℕ → List Form → Reader Sheet
-mainRest rows f forms = one (bodyLine Key.Main (sizeOfForms forms)) >>= instrsRest rows f forms
+mainRest rows f forms = one (bodyLine Place.Main (sizeOfForms forms)) >>= instrsRest rows f forms
 
 unfoldable pub formsRest : List Row → ℕ → Reader Sheet
 formsRest rows f = many f (readForm rows f) [] >>= mainRest rows f
 
 unfoldable pub rowsRest : List Row → Reader Sheet
-rowsRest rows = one (countLine Key.Forms 0 formLimit) >>= formsRest rows
+rowsRest rows = one (countLine Place.Forms 0 formLimit) >>= formsRest rows
 
 -- the rest of a sheet, read from a place of the text on: the verdict and the table tell what the rule says of it
 pub record RestRead (text : List ℕ) (rest : Reader Sheet) (at n : ℕ) (w w′ : List ℕ) (v : Verdict) : Type 0 where

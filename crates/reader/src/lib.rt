@@ -13,7 +13,7 @@ ghost use Rattle.reader.specs.Reads.{numberVerdict, progressVerdict, poo
 use line_reader::NumberLine;
 use line_reader::Progress;
 use part_reader::PoolProgress;
-use sheet_rules::Key;
+use sheet_rules::Place;
 use sheet_rules::Reason;
 use sheet_rules::Verdict;
 use table::rows::wide;
@@ -61,7 +61,7 @@ fn read_main(
     requires { ⌜ Room (now text) from first × (forms ≤ 64) × Ready rows (now work) × FormsUsed (now work) forms used ⌝ }
     ensures { λ r. ⌜ RestRead (now (text .entry)) (mainRest (rowsIn (now (work .entry)) rows) forms (formsIn (now (work .entry)) forms)) from first (now (work .entry)) (now (work .exit)) r ⌝ }
 {
-    let head = line_reader::read_body(text, from, first, Key::Main, used);
+    let head = line_reader::read_body(text, from, first, Place::Main, used);
     let NumberLine::Number { value, at, line } = head else {
         return number_verdict(head);
     };
@@ -88,7 +88,7 @@ fn read_after_rows(text: &[u8], work: &mut [u16], rows: u16, from: usize, first:
     requires { ⌜ Room (now text) from first × Ready rows (now work) ⌝ }
     ensures { λ r. ⌜ RestRead (now (text .entry)) (rowsRest (rowsIn (now (work .entry)) rows)) from first (now (work .entry)) (now (work .exit)) r ⌝ }
 {
-    let head = line_reader::read_count(text, from, first, Key::Forms, 0, 64);
+    let head = line_reader::read_count(text, from, first, Place::Forms, 0, 64);
     let NumberLine::Number { value, at, line } = head else {
         return number_verdict(head);
     };
@@ -109,7 +109,7 @@ fn read_from_types(text: &[u8], work: &mut [u16]) -> Verdict
     requires { ⌜ (length (now text) ≤ 65535) × (workSize ≤ length (now work)) ⌝ }
     ensures { λ r. ⌜ RestRead (now (text .entry)) readSheet 0 1 (now (work .entry)) (now (work .exit)) r ⌝ }
 {
-    let head = line_reader::read_count(text, 0, 1, Key::Types, 1, 64);
+    let head = line_reader::read_count(text, 0, 1, Place::Types, 1, 64);
     let NumberLine::Number { value, at, line } = head else {
         return number_verdict(head);
     };

@@ -10,11 +10,12 @@ use lib.Dec.{T, eqb, eqb→eq}
 use lib.ListN.{length, drop}
 use Rattle.lists.proofs.TabLaws.{tab-suc, tab-ext, length-tab}
 use Rattle.lists.proofs.Tests.{clash}
-use Rattle.sheet_rules.specs.declared.Key.{Key}
+use Rattle.sheet_rules.specs.declared.Place.{Place}
 use Rattle.sheet_rules.specs.declared.Member.{Member}
 use Rattle.sheet_rules.specs.declared.Reason.{Reason}
 use Rattle.sheet_rules.specs.declared.Reason.the-variants.{DuplicateRow, NotDefined}
 use Rattle.sheet_rules.specs.Lines.{Line, linesOf}
+use Rattle.sheet_rules.specs.Keys.{memberKind}
 use Rattle.sheet_rules.specs.Reader.{Judged, good, bad, demand, got, refused, settle}
 use Rattle.sheet_rules.specs.RowLines.{kindOf, twin, memberOf, mentionsBelow}
 use Rattle.lexer.specs.declared.Numbers.{Numbers}
@@ -50,10 +51,10 @@ module _ (w w′ : List ℕ) (i j : ℕ) (o : Only (memberAddress i j) (memberAd
   rows-before h = tab-ext (rowIn w′) (rowIn w) i (λ k l. row-other w w′ i k in-row h (omega arith) (λ e. omega arith))
 
 -- the test of the whole row
-module _ (w w′ : List ℕ) (i j count : ℕ) (k : Key) (ns : Numbers) (s : Stored i j (memberOf k (listOf ns)) w w′)
+module _ (w w′ : List ℕ) (i j count : ℕ) (k : Place) (ns : Numbers) (s : Stored i j (memberOf (memberKind k) (listOf ns)) w w′)
     (hi : i < 64) (hj : j < count) (hc : count ≤ 8) (counted : cell w (rowAddress i + 1) ≡ count) where
   m : Member
-  m = memberOf k (listOf ns)
+  m = memberOf (memberKind k) (listOf ns)
 
   whole : suc j ≡ count → rowIn w′ i ≡ record { kind = kindOf (cell w (rowAddress i)); members = membersIn w i j ++ (m ∷ []) }
   unfolding rowIn m
@@ -63,7 +64,7 @@ module _ (w w′ : List ℕ) (i j count : ℕ) (k : Key) (ns : Numbers) (s : Sto
         members = members x;
       }
     where
-      members : membersIn w′ i (cell w′ (rowAddress i + 1)) ≡ membersIn w i j ++ (memberOf k (listOf ns) ∷ [])
+      members : membersIn w′ i (cell w′ (rowAddress i + 1)) ≡ membersIn w i j ++ (memberOf (memberKind k) (listOf ns) ∷ [])
       members =
           ap (membersIn w′ i) (s .only .below (rowAddress i + 1) (omega arith) ∙ counted ∙ sym e)
           ∙ tab-suc (memberIn w′ i) j
@@ -72,14 +73,14 @@ module _ (w w′ : List ℕ) (i j count : ℕ) (k : Key) (ns : Numbers) (s : Sto
   -- what the code asks is what the rule asks
   pub twin-asked : (eqb (suc j) count && twin (rowsIn w′ i) (rowIn w′ i))
       ≡ (eqb (suc (length (membersIn w i j))) ((headingIn w i) .count)
-      && twin (rowsIn w i) (record { kind = (headingIn w i) .kind; members = membersIn w i j ++ (memberOf k (listOf ns) ∷ []) }))
+      && twin (rowsIn w i) (record { kind = (headingIn w i) .kind; members = membersIn w i j ++ (memberOf (memberKind k) (listOf ns) ∷ []) }))
   unfolding m
   twin-asked =
       go (eqb (suc j) count) refl
       ∙ ap₂ (λ (a b : ℕ). eqb (suc a) b && T-of) (sym (length-tab (memberIn w i) j)) (sym counted)
     where
       T-of : Bool
-      T-of = twin (rowsIn w i) (record { kind = (headingIn w i) .kind; members = membersIn w i j ++ (memberOf k (listOf ns) ∷ []) })
+      T-of = twin (rowsIn w i) (record { kind = (headingIn w i) .kind; members = membersIn w i j ++ (memberOf (memberKind k) (listOf ns) ∷ []) })
 
       go : (b : Bool) → eqb (suc j) count ≡ b → (b && twin (rowsIn w′ i) (rowIn w′ i)) ≡ (b && T-of)
       go false e = refl
@@ -103,17 +104,17 @@ module _ (w w′ : List ℕ) (i j count : ℕ) (k : Key) (ns : Numbers) (s : Sto
   Asked : Bool
   Asked =
       eqb (suc (length (membersIn w i j))) ((headingIn w i) .count)
-      && twin (rowsIn w i) (record { kind = (headingIn w i) .kind; members = membersIn w i j ++ (memberOf k (listOf ns) ∷ []) })
+      && twin (rowsIn w i) (record { kind = (headingIn w i) .kind; members = membersIn w i j ++ (memberOf (memberKind k) (listOf ns) ∷ []) })
 
   rest-twin : Asked ≡ true → rest ≡ bad DuplicateRow
   unfolding rest memberRest Asked
   rest-twin e = demand-no _ _ _ (ap not e)
 
-  rest-on : Asked ≡ false → rest ≡ demand (mentionsBelow (length (rowsIn w i)) (memberOf k (listOf ns))) NotDefined (good (memberOf k (listOf ns)))
+  rest-on : Asked ≡ false → rest ≡ demand (mentionsBelow (length (rowsIn w i)) (memberOf (memberKind k) (listOf ns))) NotDefined (good (memberOf (memberKind k) (listOf ns)))
   unfolding rest memberRest Asked
   rest-on e = demand-yes _ _ _ (ap not e)
 
-  lower : mentionsBelow (length (rowsIn w i)) (memberOf k (listOf ns)) ≡ mentionsBelow i (memberIn w′ i j)
+  lower : mentionsBelow (length (rowsIn w i)) (memberOf (memberKind k) (listOf ns)) ≡ mentionsBelow i (memberIn w′ i j)
   lower = ap₂ mentionsBelow (length-tab (rowIn w) i) (sym (s .holds))
 
   module _ (next n : ℕ) where
@@ -145,7 +146,7 @@ module _ (w w′ : List ℕ) (i j count : ℕ) (k : Key) (ns : Numbers) (s : Sto
             told = λ text.
                 ap₂ (λ (x : Member) (l : ℕ). got x (linesOf (drop next text)) l) (s .holds) (add-one n)
                 ∙ sym (ap (λ x. settle x (linesOf (drop next text)) n) (rest-on (sym twin-asked ∙ e) ∙ demand-yes _ _ _ (lower ∙ f))
-                ∙ settle-good (memberOf k (listOf ns)) (linesOf (drop next text)) n);
+                ∙ settle-good (memberOf (memberKind k) (listOf ns)) (linesOf (drop next text)) n);
             only = s .only;
             moves = λ at n′ p. ((cc), (cc));
           }

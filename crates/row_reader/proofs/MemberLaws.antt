@@ -4,7 +4,7 @@ use native.Mathlib.Omega.{arith}
 use mathlib.Core.Path.{_≡_, refl, sym, ap, _∙_}
 use mathlib.Core.List.{List}
 use lib.ListN.{length, drop}
-use Rattle.sheet_rules.specs.declared.Key.{Key}
+use Rattle.sheet_rules.specs.declared.Place.{Place}
 use Rattle.sheet_rules.specs.declared.Member.{Member}
 use Rattle.sheet_rules.specs.declared.Reason.{Reason}
 use Rattle.sheet_rules.specs.declared.Reason.the-variants.{Malformed}
@@ -29,7 +29,7 @@ unfolding settle
 settle-bad q ls n = refl
 
 module _ (text : List ℕ) (i j at n : ℕ) (w : List ℕ) where
-  judge : Key → List ℕ → Judged Member
+  judge : Place → List ℕ → Judged Member
   judge = memberLine (rowsIn w i) (headingIn w i) (membersIn w i j)
 
   refuses : (q : Reason) → refused q n ≡ one judge (linesOf (drop at text)) n → MemberRead text i j at n w w (Progress.Refused q n)
@@ -40,7 +40,7 @@ module _ (text : List ℕ) (i j at n : ℕ) (w : List ℕ) where
   unfolding judge
   member-torn e = refuses Malformed (sym (one-torn text at judge (strict-member (rowsIn w i) (headingIn w i) (membersIn w i j)) n e))
 
-  module _ (k : Key) (ns : Numbers) (next : ℕ) (e : lineAt text at ≡ LineRead.Line k ns next) (jd : LineJudged)
+  module _ (k : Place) (ns : Numbers) (next : ℕ) (e : lineAt text at ≡ LineRead.Line k ns next) (jd : LineJudged)
       (told : lineTold jd (memberRest (rowsIn w i) (headingIn w i) (membersIn w i j) k (listOf ns)) ≡ memberLine (rowsIn w i) (headingIn w i) (membersIn w i j) k (listOf ns)) where
     judged : (q : LineJudged) → jd ≡ q
         → one judge (linesOf (drop at text)) n

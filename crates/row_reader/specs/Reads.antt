@@ -3,7 +3,7 @@ use Prim.Native.Nat.{ℕ, _+_, _≤_, _<_}
 use mathlib.Core.Path.{_≡_}
 use mathlib.Core.List.{List, []}
 use lib.ListN.{length, drop}
-use Rattle.sheet_rules.specs.declared.Key.{Key}
+use Rattle.sheet_rules.specs.declared.Place.{Place}
 use Rattle.sheet_rules.specs.Lines.{linesOf}
 use Rattle.sheet_rules.specs.Sheet.{Row}
 use Rattle.sheet_rules.specs.Reader.{Read, give, andThen, settle, one, many}
@@ -39,7 +39,7 @@ pub record InRow (w : List ℕ) (i j count : ℕ) : Type 0 where
   pub size : workSize ≤ length w
 
 -- a judged member, kept: what is left to ask of its line was asked
-pub record Kept (i j : ℕ) (k : Key) (ns : Numbers) (next n : ℕ) (w w′ : List ℕ) (r : Progress) : Type 0 where
+pub record Kept (i j : ℕ) (k : Place) (ns : Numbers) (next n : ℕ) (w w′ : List ℕ) (r : Progress) : Type 0 where
   pub told : (text : List ℕ)
       → readTold text r (memberIn w′ i j)
       ≡ settle (memberRest (rowsIn w i) (headingIn w i) (membersIn w i j) k (listOf ns)) (linesOf (drop next text)) n

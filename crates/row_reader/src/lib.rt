@@ -10,7 +10,7 @@ use lexer::LineRead;
 use lexer::Numbers;
 use line_reader::PairLine;
 use line_reader::Progress;
-use sheet_rules::Key;
+use sheet_rules::Place;
 use sheet_rules::Reason;
 
 // Stores a judged member as member j of row i, and tests the row.
@@ -19,15 +19,16 @@ fn keep_member(
     i: usize,
     j: usize,
     count: usize,
-    key: Key,
+    place: Place,
     numbers: Numbers,
     next: usize,
     line: u32,
 ) -> Progress
-    requires { ⌜ InRow (now work) i j count × MemberShaped key numbers × (line < 4294967295) ⌝ }
-    ensures { λ r. ⌜ Kept i j key numbers next line (now (work .entry)) (now (work .exit)) r ⌝ }
+    requires { ⌜ InRow (now work) i j count × MemberShaped place numbers × (line < 4294967295) ⌝ }
+    ensures { λ r. ⌜ Kept i j place numbers next line (now (work .entry)) (now (work .exit)) r ⌝ }
 {
-    row_store::store_member(work, i, j, key, numbers);
+    let kind = judges::member_kind(place);
+    table::stores::put_member(work, i, j, kind, numbers.n0, numbers.n1, numbers.n2);
     if row_store::completes_twin(work, i, j, count) {
         return Progress::Refused {
             reason: Reason::DuplicateRow,
@@ -60,15 +61,20 @@ fn read_member(
     requires { ⌜ Room (now text) at line × InRow (now work) i j count ⌝ }
     ensures { λ r. ⌜ MemberRead (now (text .entry)) i j at line (now (work .entry)) (now (work .exit)) r ⌝ }
 {
-    let LineRead::Line { key, numbers, next } = lexer::read_line(text, at) else {
+    let LineRead::Line {
+        place,
+        numbers,
+        next,
+    } = lexer::read_line(text, at)
+    else {
         return Progress::Refused {
             reason: Reason::Malformed,
             line,
         };
     };
     let lowest = row_store::lowest_name(work, i, j);
-    match judges::member_line(lowest, key, numbers) {
-        LineJudged::Good => keep_member(work, i, j, count, key, numbers, next, line),
+    match judges::member_line(lowest, place, numbers) {
+        LineJudged::Good => keep_member(work, i, j, count, place, numbers, next, line),
         LineJudged::Refused { reason } => Progress::Refused { reason, line },
     }
 }

@@ -2,32 +2,33 @@
 use Prim.Native.Nat.{ℕ, _+_, _≤_, _<_}
 use native.Mathlib.Omega.{arith}
 use mathlib.Core.Path.{_≡_, sym, ap, _∙_, subst}
-use mathlib.Core.Bool.{Bool, false, cond}
-use mathlib.Core.List.{List, [], _∷_}
-use lib.Dec.{eqb}
-use lib.ListN.{length, set, length-set, take}
+use mathlib.Core.List.{List}
+use lib.Dec.{T, lit≤}
+use lib.ListN.{length, set, length-set}
 use lib.Seq.{getD-set-same, getD-set-other}
-use borrow.Author.Tests.{eq-eqb, ne-eqb}
-use Rattle.sheet_rules.specs.declared.Key.{Key}
 use Rattle.sheet_rules.specs.declared.Member.the-variants.{Method, Field}
-use Rattle.sheet_rules.specs.Keys.{codeOf}
-use Rattle.sheet_rules.specs.Reader.{nth}
+use Rattle.sheet_rules.specs.declared.MemberKind.{MemberKind}
+use Rattle.sheet_rules.specs.declared.Place.{Place}
+use Rattle.sheet_rules.specs.declared.Place.the-variants.{Types, Row, Member, Forms, Form, Keep, Init, Body, Main, Instruction, Nowhere}
+use Rattle.sheet_rules.specs.Keys.{samePlace, memberKind}
 use Rattle.sheet_rules.specs.RowLines.{memberOf}
 use Rattle.lexer.specs.declared.Numbers.{Numbers}
-use Rattle.lexer.specs.Scan.{listOf}
-use Rattle.judges.specs.Told.{MemberShaped, method, field}
+use Rattle.lexer.specs.Scan.{listOf, Fitting}
+use Rattle.judges.specs.Told.{MemberShaped}
+use Rattle.judges.proofs.JudgeLaws.{number-first, number-second, number-third}
 use Rattle.table.specs.Layout.{memberAddress, workSize}
-use Rattle.table.specs.View.{cell, memberFrom, memberIn}
+use Rattle.table.specs.View.{cell, kindTag, memberFrom, memberIn}
+use Rattle.table.specs.Stores.{memberPut}
 use Rattle.table.specs.Only.{Only}
 use Rattle.table.proofs.ViewLaws.{only-set, only-trans}
-use Rattle.row_store.specs.Stored.{tagOf, Stored}
+use Rattle.row_store.specs.Stored.{Stored}
 
 -- four numbers from a place on
-abbrev pub four : List ℕ → ℕ → ℕ → ℕ → ℕ → ℕ → List ℕ
+abbrev four : List ℕ → ℕ → ℕ → ℕ → ℕ → ℕ → List ℕ
 four w at t a b c = set (set (set (set w at t) (at + 1) a) (at + 2) b) (at + 3) c
 
 module _ (w : List ℕ) (at t a b c : ℕ) where
-  pub four-only : Only at (at + 4) w (four w at t a b c)
+  four-only : Only at (at + 4) w (four w at t a b c)
   four-only =
       only-trans (only-trans (only-trans
       (only-set at (at + 4) w at t (omega arith) (omega arith))
@@ -63,7 +64,7 @@ module _ (w : List ℕ) (at t a b c : ℕ) where
     four-3 : cell (four w at t a b c) (at + 3) ≡ c
     four-3 = getD-set-same w3 (at + 3) c 0 (omega (arith, length-set w at t, length-set w1 (at + 1) a, length-set w2 (at + 2) b))
 
-pub four-member : (w : List ℕ) (i j t a b c : ℕ) → workSize ≤ length w
+four-member : (w : List ℕ) (i j t a b c : ℕ) → workSize ≤ length w
     → memberIn (four w (memberAddress i j) t a b c) i j ≡ memberFrom t a b c
 unfolding memberIn
 four-member w i j t a b c h =
@@ -72,39 +73,38 @@ four-member w i j t a b c h =
     (four-2 w (memberAddress i j) t a b c z x) (four-3 w (memberAddress i j) t a b c z x)
 
 -- a member line's numbers make its member
-
-three : (n a b c d e f g h i : ℕ) → n ≡ 3 → take n (a ∷ b ∷ c ∷ d ∷ e ∷ f ∷ g ∷ h ∷ i ∷ []) ≡ a ∷ b ∷ c ∷ []
-three n a b c d e f g h i p = ap (λ (k : ℕ). take k (a ∷ b ∷ c ∷ d ∷ e ∷ f ∷ g ∷ h ∷ i ∷ [])) p
-
-two : (n a b c d e f g h i : ℕ) → n ≡ 2 → take n (a ∷ b ∷ c ∷ d ∷ e ∷ f ∷ g ∷ h ∷ i ∷ []) ≡ a ∷ b ∷ []
-two n a b c d e f g h i p = ap (λ (k : ℕ). take k (a ∷ b ∷ c ∷ d ∷ e ∷ f ∷ g ∷ h ∷ i ∷ [])) p
-
-pub member-from : (k : Key) (ns : Numbers) → MemberShaped k ns → memberFrom (tagOf k) (ns .n0) (ns .n1) (ns .n2) ≡ memberOf k (listOf ns)
-unfolding listOf
-member-from k ns (method e p) =
-    ap (λ (x : Bool). memberFrom (cond x 0 1) (ns .n0) (ns .n1) (ns .n2)) (eq-eqb (codeOf k) (codeOf Key.Def) e)
-    ∙ sym
-    (ap (λ (x : Bool). cond x (Method (nth (listOf ns) 0) (nth (listOf ns) 1) (nth (listOf ns) 2)) (Field (nth (listOf ns) 0) (nth (listOf ns) 1)))
-    (eq-eqb (codeOf k) (codeOf Key.Def) e)
-    ∙ ap (λ (l : List ℕ). Method (nth l 0) (nth l 1) (nth l 2))
-    (three (ns .count) (ns .n0) (ns .n1) (ns .n2) (ns .n3) (ns .n4) (ns .n5) (ns .n6) (ns .n7) (ns .n8) p))
-member-from k ns (field e p) =
-    ap (λ (x : Bool). memberFrom (cond x 0 1) (ns .n0) (ns .n1) (ns .n2)) no-method
-    ∙ sym
-    (ap (λ (x : Bool). cond x (Method (nth (listOf ns) 0) (nth (listOf ns) 1) (nth (listOf ns) 2)) (Field (nth (listOf ns) 0) (nth (listOf ns) 1))) no-method
-    ∙ ap (λ (l : List ℕ). Field (nth l 0) (nth l 1))
-    (two (ns .count) (ns .n0) (ns .n1) (ns .n2) (ns .n3) (ns .n4) (ns .n5) (ns .n6) (ns .n7) (ns .n8) p))
+pub member-from : (k : Place) (ns : Numbers) → MemberShaped k ns
+    → memberFrom (kindTag (memberKind k)) (ns .n0) (ns .n1) (ns .n2) ≡ memberOf (memberKind k) (listOf ns)
+member-from k ns s = go k (s .fitting) (subst T (sym (s .member)) tt)
   where
-    no-method : eqb (codeOf k) (codeOf Key.Def) ≡ false
-    no-method = ne-eqb (codeOf k) (codeOf Key.Def) (λ q. omega arith)
+    go : (k : Place) → Fitting k ns → T (samePlace k (Member MemberKind.Method))
+        → memberFrom (kindTag (memberKind k)) (ns .n0) (ns .n1) (ns .n2) ≡ memberOf (memberKind k) (listOf ns)
+    go (Member MemberKind.Method) h t =
+        let k : Place = Member MemberKind.Method in
+        sym (λ x. Method (number-first k ns h x) (number-second k ns h (lit≤ tt) x) (number-third k ns h (lit≤ tt) x))
+    go (Member MemberKind.Field) h t =
+        let k : Place = Member MemberKind.Field in
+        sym (λ x. Field (number-first k ns h x) (number-second k ns h (lit≤ tt) x))
+    go Types h t = absurd t
+    go Row h t = absurd t
+    go Forms h t = absurd t
+    go Form h t = absurd t
+    go Keep h t = absurd t
+    go Init h t = absurd t
+    go Body h t = absurd t
+    go Main h t = absurd t
+    go (Instruction operation) h t = absurd t
+    go Nowhere h t = absurd t
 
 -- what storing leaves
-pub stored-four : (w w′ : List ℕ) (i j : ℕ) (k : Key) (ns : Numbers) (t : ℕ) → workSize ≤ length w → MemberShaped k ns → t ≡ tagOf k
-    → w′ ≡ four w (memberAddress i j) t (ns .n0) (ns .n1) (ns .n2) → Stored i j (memberOf k (listOf ns)) w w′
-stored-four w w′ i j k ns t h s p e =
+pub stored-member : (w w′ : List ℕ) (i j : ℕ) (k : Place) (ns : Numbers) (kind : MemberKind) → workSize ≤ length w → MemberShaped k ns
+    → kind ≡ memberKind k → w′ ≡ memberPut w i j kind (ns .n0) (ns .n1) (ns .n2) → Stored i j (memberOf (memberKind k) (listOf ns)) w w′
+stored-member w w′ i j k ns kind h s p e =
     record {
       holds =
-          ap (λ (x : List ℕ). memberIn x i j) e ∙ four-member w i j t (ns .n0) (ns .n1) (ns .n2) h
-          ∙ ap (λ (x : ℕ). memberFrom x (ns .n0) (ns .n1) (ns .n2)) p ∙ member-from k ns s;
-      only = subst (Only (memberAddress i j) (memberAddress i j + 4) w) (sym e) (four-only w (memberAddress i j) t (ns .n0) (ns .n1) (ns .n2));
+          ap (λ (x : List ℕ). memberIn x i j) e ∙ four-member w i j (kindTag kind) (ns .n0) (ns .n1) (ns .n2) h
+          ∙ ap (λ (x : MemberKind). memberFrom (kindTag x) (ns .n0) (ns .n1) (ns .n2)) p ∙ member-from k ns s;
+      only =
+          subst (Only (memberAddress i j) (memberAddress i j + 4) w) (sym e)
+          (four-only w (memberAddress i j) (kindTag kind) (ns .n0) (ns .n1) (ns .n2));
     }

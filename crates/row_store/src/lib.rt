@@ -1,17 +1,13 @@
-// The row in progress: its members stored, and the tests that its lines still have to pass.
+// The row in progress: the tests that its lines still have to pass.
 ghost use mathlib.Core.Path.{_≡_};
 ghost use mathlib.Core.Bool.{_&&_};
 ghost use Prim.Native.Nat.{_≤_, _<_, _+_, suc};
 ghost use lib.Dec.{eqb};
 ghost use lib.ListN.{length};
-ghost use Rattle.sheet_rules.specs.RowLines.{nameOf, twin, mentionsBelow, memberOf};
-ghost use Rattle.lexer.specs.Scan.{listOf};
-ghost use Rattle.judges.specs.Told.{Lowest, MemberShaped};
+ghost use Rattle.sheet_rules.specs.RowLines.{nameOf, twin, mentionsBelow};
+ghost use Rattle.judges.specs.Told.{Lowest};
 ghost use Rattle.table.specs.Layout.{rowAddress, workSize};
 ghost use Rattle.table.specs.View.{cell as cellOf, membersIn, rowIn, rowsIn};
-ghost use Rattle.row_store.specs.Stored.{tagOf, Stored};
-use lexer::Numbers;
-use sheet_rules::Key;
 use sheet_rules::Member;
 
 // The least name that ascends after the first j members of row i.
@@ -80,29 +76,4 @@ pub fn lone_twin(work: &[u16], i: usize, count: usize) -> bool
         return twins::has_twin(work, i);
     }
     false
-}
-
-// 0 for a method, 1 for a field.
-fn member_tag(key: Key) -> u16
-    ensures { λ r. ⌜ r ≡ tagOf key ⌝ }
-{
-    let facts = judges::key_facts(key);
-    let code = facts.code;
-    if code == 2 {
-        return 0;
-    }
-    1
-}
-
-// Stores a member line as member j of row i.
-pub fn store_member(work: &mut [u16], i: usize, j: usize, key: Key, numbers: Numbers)
-    requires { ⌜ (i < 64) × (j < 8) × (workSize ≤ length (now work)) × MemberShaped key numbers ⌝ }
-    ensures { λ r. ⌜ Stored i j (memberOf key (listOf numbers)) (now (work .entry)) (now (work .exit)) ⌝ }
-{
-    let at = table::rows::member_address(i, j);
-    let tag = member_tag(key);
-    table::put(work, at, tag);
-    table::put(work, at + 1, numbers.n0);
-    table::put(work, at + 2, numbers.n1);
-    table::put(work, at + 3, numbers.n2);
 }

@@ -2,10 +2,9 @@
 use Prim.Native.Nat.{ℕ, suc, _+_, _≤_, _<_}
 use native.Mathlib.Omega.{arith}
 use mathlib.Core.Path.{_≡_, refl, sym, ap, _∙_, subst}
-use mathlib.Core.Bool.{Bool, true, false, cond, _&&_, _||_}
 use mathlib.Core.List.{List, [], _∷_, _++_, append-nil}
 use mathlib.Core.Logic.{_⊎_, inl, inr}
-use lib.Dec.{T, eqb, leb, leb→le, ltb→lt}
+use lib.Dec.{T, leb, leb→le, ltb→lt}
 use lib.ListN.{length, getD, length-append, length-drop}
 use lib.Seq.{getD-at, append-snoc}
 use Rattle.lists.specs.In.{In}
@@ -15,18 +14,21 @@ use Rattle.lists.proofs.PairwiseLaws.{pairwise-length, pairwise-snoc}
 use Rattle.lists.proofs.Tests.{and-left, and-right}
 use Rattle.sheet_rules.specs.declared.Member.{Member}
 use Rattle.sheet_rules.specs.declared.Member.the-variants.{Method, Field}
-use Rattle.sheet_rules.specs.declared.Key.{Key}
+use Rattle.sheet_rules.specs.declared.Operation.{Operation}
+use Rattle.sheet_rules.specs.declared.Operation.the-variants.{New, Call, Get, Put, Copy}
+use Rattle.sheet_rules.specs.declared.Place.{Place}
 use Rattle.sheet_rules.specs.Limits.{keepLimit, bodyLimit, instructionLimit}
-use Rattle.sheet_rules.specs.Keys.{codeOf, countOf, hasKey, hasInstructionKey}
+use Rattle.sheet_rules.specs.Keys.{countOf, samePlace, takes, stands, operationOf}
 use Rattle.sheet_rules.specs.Lines.{Line}
 use Rattle.sheet_rules.specs.Sheet.{Row, Instr, Part, Form, noMember, rowAt, sizeOfParts, sizeOfForms}
 use Rattle.sheet_rules.specs.Reader.{Reader, nth, within, existingLine, one, many}
 use Rattle.sheet_rules.specs.FormLines.{FormHeading, formLine, bodyLine, instrOf, instrLine, readInstrs, readPart, readForm}
 use Rattle.sheet_rules.specs.WellFormed.{keptSlots, WellFormedInstr, Scoped, end, next, PartOf, field, method, WellFormedForm}
+use Rattle.sheet_rules.proofs.KeysLaws.{most-nine}
 use Rattle.sheet_rules.proofs.ReaderLaws.{Judges, its-good, Gives, its-got, judges-demand, gives-one, gives-then, gives-map, gives-many}
 
 -- a number that counts something there
-pub existingLine-below : (wanted : Key) (bound : ℕ) (k : Key) (ns : List ℕ) → Judges (λ m. m < bound) (existingLine wanted bound k ns)
+pub existingLine-below : (wanted : Place) (bound : ℕ) (k : Place) (ns : List ℕ) → Judges (λ m. m < bound) (existingLine wanted bound k ns)
 unfolding existingLine
 existingLine-below wanted bound k ns =
     judges-demand P _ _ _ (λ _. judges-demand P _ _ _ (λ t. its-good (ltb→lt (nth ns 0) bound t)))
@@ -42,7 +44,7 @@ pub record Room (used i : ℕ) : Type 0 where
   pub few : i ≤ bodyLimit
   pub whole : used + i ≤ instructionLimit
 
-pub bodyLine-room : (wanted : Key) (used : ℕ) (k : Key) (ns : List ℕ) → Judges (Room used) (bodyLine wanted used k ns)
+pub bodyLine-room : (wanted : Place) (used : ℕ) (k : Place) (ns : List ℕ) → Judges (Room used) (bodyLine wanted used k ns)
 unfolding bodyLine
 bodyLine-room wanted used k ns =
     judges-demand (Room used) _ _ _ (λ _. judges-demand (Room used) _ _ _ (λ t.
@@ -62,47 +64,26 @@ scoped-snoc {forms} {filled} (i ∷ is) j (next u r) t =
     let e : filled + suc (length is) ≡ suc filled + length is = omega arith in
     next u (scoped-snoc is j r (subst (λ (m : ℕ). WellFormedInstr forms m j) e t))
 
--- an instruction line has at most the numbers of a `new` with 8 kept values
-numbers-few : (k : Key) (ns : List ℕ) → T (hasInstructionKey k ns) → length ns ≤ suc keepLimit
-numbers-few k ns t =
-    either (isKey Key.New || isKey Key.Call || isKey Key.Get || isKey Key.Put) (isKey Key.Copy)
-    (either (isKey Key.New || isKey Key.Call || isKey Key.Get) (isKey Key.Put)
-    (either (isKey Key.New || isKey Key.Call) (isKey Key.Get)
-    (either (isKey Key.New) (isKey Key.Call) (most Key.New (omega arith)) (most Key.Call (omega arith)))
-    (most Key.Get (omega arith)))
-    (most Key.Put (omega arith)))
-    (most Key.Copy (omega arith)) t
-  where
-    isKey : Key → Bool
-    isKey wanted = hasKey wanted k ns
+-- a line that stands where it may has at most the numbers of a `new` with 8 kept values
+numbers-few : (wanted k : Place) (ns : List ℕ) → T (stands wanted k ns) → length ns ≤ suc keepLimit
+numbers-few wanted k ns t =
+    let m = leb→le (length ns) ((countOf k) .most)
+    (and-right (leb ((countOf k) .fewest) (length ns)) (leb (length ns) ((countOf k) .most)) (and-right (samePlace k wanted) (takes k (length ns)) t)) in
+    let n = most-nine k in
+    omega arith
 
-    either : (a b : Bool) → (T a → length ns ≤ suc keepLimit) → (T b → length ns ≤ suc keepLimit) → T (a || b) → length ns ≤ suc keepLimit
-    either true b f g u = f tt
-    either false b f g u = g u
+instrOf-few : (operation : Operation) (ns : List ℕ) → length ns ≤ suc keepLimit → keptSlots (instrOf operation ns) ≤ keepLimit
+instrOf-few New ns h = rw length-drop (omega arith)
+instrOf-few Call ns h = omega arith
+instrOf-few Get ns h = omega arith
+instrOf-few Put ns h = omega arith
+instrOf-few Copy ns h = omega arith
 
-    most : (wanted : Key) → (countOf wanted) .most ≤ suc keepLimit → T (isKey wanted) → length ns ≤ suc keepLimit
-    most wanted l u =
-        let m = leb→le (length ns) ((countOf wanted) .most)
-        (and-right (eqb (codeOf k) (codeOf wanted) && leb ((countOf wanted) .fewest) (length ns)) (leb (length ns) ((countOf wanted) .most)) u) in
-        omega arith
-
-instrOf-few : (k : Key) (ns : List ℕ) → length ns ≤ suc keepLimit → keptSlots (instrOf k ns) ≤ keepLimit
-unfolding instrOf
-instrOf-few k ns h =
-    choice (eqb (codeOf k) (codeOf Key.New)) _ _ (rw length-drop (omega arith))
-    (choice (eqb (codeOf k) (codeOf Key.Call)) _ _ (omega arith)
-    (choice (eqb (codeOf k) (codeOf Key.Get)) _ _ (omega arith)
-    (choice (eqb (codeOf k) (codeOf Key.Put)) _ _ (omega arith) (omega arith))))
-  where
-    choice : (b : Bool) (i j : Instr) → keptSlots i ≤ keepLimit → keptSlots j ≤ keepLimit → keptSlots (cond b i j) ≤ keepLimit
-    choice true i j p q = p
-    choice false i j p q = q
-
-instrLine-wellFormed : (forms filled : ℕ) (k : Key) (ns : List ℕ) → Judges (WellFormedInstr forms filled) (instrLine forms filled k ns)
+instrLine-wellFormed : (forms filled : ℕ) (k : Place) (ns : List ℕ) → Judges (WellFormedInstr forms filled) (instrLine forms filled k ns)
 unfolding instrLine
 instrLine-wellFormed forms filled k ns =
-    judges-demand P _ _ _ (λ key. judges-demand P _ _ _ (λ name. judges-demand P _ _ _ (λ t.
-    its-good (record { exist = t; name = name; few = instrOf-few k ns (numbers-few k ns key) }))))
+    judges-demand P _ _ _ (λ here. judges-demand P _ _ _ (λ name. judges-demand P _ _ _ (λ t.
+    its-good (record { exist = t; name = name; few = instrOf-few (operationOf k) ns (numbers-few (Place.Instruction New) k ns here) }))))
   where
     P : Instr → Type 0
     P = WellFormedInstr forms filled
@@ -132,11 +113,11 @@ readPart-of : (forms keeps used : ℕ) (m : Member) (ls : List Line) (n : ℕ) �
 unfolding readPart
 readPart-of forms keeps used (Field m r) ls n =
     gives-then (λ k. k < keeps) (PartOf forms keeps (Field m r)) _ _
-    (gives-one (λ k. k < keeps) (existingLine Key.Init keeps) (existingLine-below Key.Init keeps) ls n)
+    (gives-one (λ k. k < keeps) (existingLine Place.Init keeps) (existingLine-below Place.Init keeps) ls n)
     (λ k h ls n. its-got (field h))
 readPart-of forms keeps used (Method m a r) ls n =
     gives-then (Room used) (PartOf forms keeps (Method m a r)) _ _
-    (gives-one (Room used) (bodyLine Key.Body used) (bodyLine-room Key.Body used) ls n) (λ i room ls n.
+    (gives-one (Room used) (bodyLine Place.Body used) (bodyLine-room Place.Body used) ls n) (λ i room ls n.
     gives-then (λ is. Scoped forms (suc (suc keeps)) is × (length is ≡ i)) (PartOf forms keeps (Method m a r)) _ _
     (readInstrs-scoped forms (suc (suc keeps)) i ls n) (λ is p ls n.
     its-got (method (record { scoped = p .0; some = omega (arith, p .1); few = omega (arith, p .1) }))))
@@ -206,7 +187,7 @@ pub record HeadingOk (rows : ℕ) (h : FormHeading) : Type 0 where
   pub row : h .row < rows
   pub few : h .count ≤ keepLimit
 
-pub formLine-ok : (rows : ℕ) (k : Key) (ns : List ℕ) → Judges (HeadingOk rows) (formLine rows k ns)
+pub formLine-ok : (rows : ℕ) (k : Place) (ns : List ℕ) → Judges (HeadingOk rows) (formLine rows k ns)
 unfolding formLine
 formLine-ok rows k ns =
     judges-demand (HeadingOk rows) _ _ _ (λ _. judges-demand (HeadingOk rows) _ _ _ (λ few. judges-demand (HeadingOk rows) _ _ _ (λ t.
@@ -219,9 +200,9 @@ readForm-wellFormed rows forms earlier ls n =
     gives-then (HeadingOk (length rows)) P _ _
     (gives-one (HeadingOk (length rows)) (formLine (length rows)) (formLine-ok (length rows)) ls n) (λ h ok ls n.
     gives-then (KeepsSoFar (length rows) (h .count) 0) P _ _
-    (gives-many (KeepsSoFar (length rows) (h .count)) (λ before. one (existingLine Key.Keep (length rows)))
+    (gives-many (KeepsSoFar (length rows) (h .count)) (λ before. one (existingLine Place.Keep (length rows)))
     (λ k before c ls n. gives-map (keeps-keep (length rows) (h .count) k before c) _
-    (gives-one (λ b. b < length rows) (existingLine Key.Keep (length rows)) (existingLine-below Key.Keep (length rows)) ls n))
+    (gives-one (λ b. b < length rows) (existingLine Place.Keep (length rows)) (existingLine-below Place.Keep (length rows)) ls n))
     (h .count) [] (record { there = λ a i. absurd (in-nil i); counted = omega arith }) ls n) (λ keeps c ls n.
     gives-then (Pairwise (PartOf forms (length keeps)) ((rowAt rows (h .row)) .members)) P _ _
     (readParts-of forms (length keeps) (λ before. sizeOfForms earlier + sizeOfParts before) ((rowAt rows (h .row)) .members) ls n)

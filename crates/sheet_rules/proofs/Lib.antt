@@ -1,4 +1,5 @@
 pub mod Opened
+pub mod KeysLaws
 pub mod ReadingCases
 pub mod ReaderLaws
 pub mod RowLinesLaws

@@ -3,7 +3,7 @@ use Prim.Native.Nat.{ℕ, zero, suc}
 use mathlib.Core.Bool.{Bool, true, false}
 use mathlib.Core.List.{List, [], _∷_, _++_}
 use lib.Dec.{T}
-use Rattle.sheet_rules.specs.declared.Key.{Key}
+use Rattle.sheet_rules.specs.declared.Place.{Place}
 use Rattle.sheet_rules.specs.declared.Reason.{Reason}
 use Rattle.sheet_rules.specs.Lines.{Line, line, torn}
 use Rattle.sheet_rules.specs.Reader.{Judged, good, bad, demand, Read, got, refused, Reader, andThen, settle, one, many}
@@ -39,7 +39,7 @@ judges-demand P true r x h = h tt
 judges-demand P false r x h = its-bad
 
 -- one: the judgement of any line decides
-pub gives-one : {A : Type 0} (P : A → Type 0) (judge : Key → List ℕ → Judged A) → ((k : Key) (ns : List ℕ) → Judges P (judge k ns))
+pub gives-one : {A : Type 0} (P : A → Type 0) (judge : Place → List ℕ → Judged A) → ((k : Place) (ns : List ℕ) → Judges P (judge k ns))
     → (ls : List Line) (n : ℕ) → Gives P (one judge ls n)
 unfolding one settle
 gives-one P judge h [] n = its-refused

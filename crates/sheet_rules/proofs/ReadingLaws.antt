@@ -8,7 +8,7 @@ use lib.Dec.{leb, leb→le}
 use lib.ListN.{length}
 use Rattle.lists.specs.In.{In}
 use Rattle.lists.proofs.Tests.{and-left, and-right, clash}
-use Rattle.sheet_rules.specs.declared.Key.{Key}
+use Rattle.sheet_rules.specs.declared.Place.{Place}
 use Rattle.sheet_rules.specs.declared.Reason.{Reason}
 use Rattle.sheet_rules.specs.declared.Reason.the-variants.{TextTooLong}
 use Rattle.sheet_rules.specs.Limits.{textLimit, rowLimit, formLimit}
@@ -29,7 +29,7 @@ meaning-unique text s t p q = cc
 -- reading gives well-formed sheets
 
 -- a count is within its limits
-pub countLine-within : (wanted : Key) (low high : ℕ) (k : Key) (ns : List ℕ) → Judges (λ c. (low ≤ c) × (c ≤ high)) (countLine wanted low high k ns)
+pub countLine-within : (wanted : Place) (low high : ℕ) (k : Place) (ns : List ℕ) → Judges (λ c. (low ≤ c) × (c ≤ high)) (countLine wanted low high k ns)
 unfolding countLine
 countLine-within wanted low high k ns =
     judges-demand P _ _ _ (λ _. judges-demand P _ _ _ (λ t. its-good (
@@ -62,14 +62,14 @@ readSheet-wellFormed : (ls : List Line) (n : ℕ) → Gives WellFormed (readShee
 unfolding readSheet
 readSheet-wellFormed ls n =
     gives-then (λ t. (1 ≤ t) × (t ≤ rowLimit)) WellFormed _ _
-    (gives-one (λ t. (1 ≤ t) × (t ≤ rowLimit)) (countLine Key.Types 1 rowLimit) (countLine-within Key.Types 1 rowLimit) ls n) (λ t a ls n.
+    (gives-one (λ t. (1 ≤ t) × (t ≤ rowLimit)) (countLine Place.Types 1 rowLimit) (countLine-within Place.Types 1 rowLimit) ls n) (λ t a ls n.
     gives-then (λ rows. WellFormedRows rows × (length rows ≡ t)) WellFormed _ _ (readRows-wellFormed t ls n) (λ rows b ls n.
     gives-then (λ f. (0 ≤ f) × (f ≤ formLimit)) WellFormed _ _
-    (gives-one (λ f. (0 ≤ f) × (f ≤ formLimit)) (countLine Key.Forms 0 formLimit) (countLine-within Key.Forms 0 formLimit) ls n) (λ f c ls n.
+    (gives-one (λ f. (0 ≤ f) × (f ≤ formLimit)) (countLine Place.Forms 0 formLimit) (countLine-within Place.Forms 0 formLimit) ls n) (λ f c ls n.
     gives-then (λ forms. ((g : Form) → In g forms → WellFormedForm rows f g) × (length forms ≡ f)) WellFormed _ _
     (readForms-wellFormed rows f ls n) (λ forms d ls n.
     gives-then (Room (sizeOfForms forms)) WellFormed _ _
-    (gives-one (Room (sizeOfForms forms)) (bodyLine Key.Main (sizeOfForms forms)) (bodyLine-room Key.Main (sizeOfForms forms)) ls n) (λ i e ls n.
+    (gives-one (Room (sizeOfForms forms)) (bodyLine Place.Main (sizeOfForms forms)) (bodyLine-room Place.Main (sizeOfForms forms)) ls n) (λ i e ls n.
     gives-then (λ main. Scoped f 0 main × (length main ≡ i)) WellFormed _ _ (readInstrs-scoped f 0 i ls n) (λ main g ls n.
     gives-then (λ _. Unit {0}) WellFormed _ _ (gives-any (readEnd ls n)) (λ _ _ ls n.
     its-got (sheet-wellFormed rows forms main t f i a b c d e g))))))))

@@ -3,20 +3,19 @@ use Prim.Native.Nat.{ℕ, suc, _+_, _≤_}
 use native.Mathlib.Omega.{arith}
 use native.Mathlib.Decide.{decLe}
 use mathlib.Core.Path.{_≡_, refl, sym, subst}
-use mathlib.Core.Bool.{Bool, true, false, cond}
 use mathlib.Core.List.{List, [], _∷_, _++_}
 use mathlib.Core.Logic.{_⊎_, inl, inr}
-use lib.Dec.{T, eqb, leb, leb→le, ltb→lt}
+use lib.Dec.{T, leb, leb→le, ltb→lt}
 use lib.ListN.{length, length-append, List·getD-append, List·getD-eq-default}
 use lib.Seq.{getD-at}
 use Rattle.lists.specs.In.{In}
 use Rattle.lists.proofs.InLaws.{in-nil, in-snoc}
 use Rattle.lists.proofs.Tests.{and-right}
 use Rattle.sheet_rules.specs.declared.Member.{Member}
-use Rattle.sheet_rules.specs.declared.Member.the-variants.{Method, Field}
-use Rattle.sheet_rules.specs.declared.Key.{Key}
+use Rattle.sheet_rules.specs.declared.MemberKind.{MemberKind}
+use Rattle.sheet_rules.specs.declared.Place.{Place}
 use Rattle.sheet_rules.specs.Limits.{memberLimit, nameLimit}
-use Rattle.sheet_rules.specs.Keys.{codeOf}
+use Rattle.sheet_rules.specs.Keys.{memberKind}
 use Rattle.sheet_rules.specs.Lines.{Line}
 use Rattle.sheet_rules.specs.Sheet.{Row, noRow, rowAt}
 use Rattle.sheet_rules.specs.Reader.{nth, one, many}
@@ -37,12 +36,9 @@ unfolding ascends
 names-snoc i x [] y (above p r) t = above p (above (ltb→lt (nameOf x) (nameOf y) t) end)
 names-snoc i x (z ∷ xs) y (above p r) t = above p (names-snoc (suc (nameOf x)) z xs y r t)
 
-memberOf-name : (k : Key) (ns : List ℕ) → nameOf (memberOf k ns) ≡ nth ns 0
-memberOf-name k ns = go (eqb (codeOf k) (codeOf Key.Def))
-  where
-    go : (b : Bool) → nameOf (cond b (Method (nth ns 0) (nth ns 1) (nth ns 2)) (Field (nth ns 0) (nth ns 1))) ≡ nth ns 0
-    go true = refl
-    go false = refl
+memberOf-name : (kind : MemberKind) (ns : List ℕ) → nameOf (memberOf kind ns) ≡ nth ns 0
+memberOf-name MemberKind.Method ns = refl
+memberOf-name MemberKind.Field ns = refl
 
 names-add : (xs : List Member) (y : Member) → NamesAscend 0 xs → T (ascends xs (nameOf y)) → NamesAscend 0 (xs ++ (y ∷ []))
 names-add [] y r t = above {i = 0} {x = y} (omega arith) end
@@ -56,15 +52,15 @@ record SoFar (i count k : ℕ) (xs : List Member) : Type 0 where
   counted : length xs + k ≡ count
 
 memberLine-keeps : (earlier : List Row) (h : Heading) (j : ℕ) (before : List Member) → SoFar (length earlier) (h .count) (suc j) before
-    → (k : Key) (ns : List ℕ) → Judges (λ x. SoFar (length earlier) (h .count) j (before ++ (x ∷ []))) (memberLine earlier h before k ns)
+    → (k : Place) (ns : List ℕ) → Judges (λ x. SoFar (length earlier) (h .count) j (before ++ (x ∷ []))) (memberLine earlier h before k ns)
 unfolding memberLine
 memberLine-keeps earlier h j before p k ns =
     judges-demand P _ _ _ (λ _. judges-demand P _ _ _ (λ l. judges-demand P _ _ _ (λ up. judges-demand P _ _ _ (λ _.
     judges-demand P _ _ _ (λ t. its-good (record {
-      lower = mentions-snoc (length earlier) before (memberOf k ns) (p .lower) t;
-      names = names-add before (memberOf k ns) (p .names) (subst (λ (m : ℕ). T (ascends before m)) (sym (memberOf-name k ns)) up);
-      low = low-snoc (memberOf k ns) (subst (λ (m : ℕ). m ≤ nameLimit) (sym (memberOf-name k ns)) (leb→le (nth ns 0) nameLimit l));
-      counted = one-more (memberOf k ns);
+      lower = mentions-snoc (length earlier) before (memberOf (memberKind k) ns) (p .lower) t;
+      names = names-add before (memberOf (memberKind k) ns) (p .names) (subst (λ (m : ℕ). T (ascends before m)) (sym (memberOf-name (memberKind k) ns)) up);
+      low = low-snoc (memberOf (memberKind k) ns) (subst (λ (m : ℕ). m ≤ nameLimit) (sym (memberOf-name (memberKind k) ns)) (leb→le (nth ns 0) nameLimit l));
+      counted = one-more (memberOf (memberKind k) ns);
     }))))))
   where
     P : Member → Type 0
@@ -80,7 +76,7 @@ memberLine-keeps earlier h j before p k ns =
     one-more : (x : Member) → length (before ++ (x ∷ [])) + j ≡ h .count
     one-more x = rw length-append (omega arith)
 
-rowLine-few : (earlier : List Row) (k : Key) (ns : List ℕ) → Judges (λ h. h .count ≤ memberLimit) (rowLine earlier k ns)
+rowLine-few : (earlier : List Row) (k : Place) (ns : List ℕ) → Judges (λ h. h .count ≤ memberLimit) (rowLine earlier k ns)
 unfolding rowLine
 rowLine-few earlier k ns =
     judges-demand P _ _ _ (λ _. judges-demand P _ _ _ (λ few. judges-demand P _ _ _ (λ _.

@@ -1,16 +1,18 @@
 -- The lines of forms, bodies and main (document 01, The sheet, `forms` and `main`; Turned away, 3, 4 and 7).
 -- Stands on Limits, Keys, Sheet, Reader.
 use Prim.Native.Nat.{ℕ, suc, _+_}
-use mathlib.Core.Bool.{Bool, true, cond, _&&_}
+use mathlib.Core.Bool.{Bool, true, _&&_}
 use mathlib.Core.List.{List, [], _∷_}
-use lib.Dec.{eqb, leb, ltb}
+use lib.Dec.{leb, ltb}
 use lib.ListN.{length, getD, drop}
 use Rattle.sheet_rules.specs.declared.Member.{Member}
 use Rattle.sheet_rules.specs.declared.Member.the-variants.{Method, Field}
-use Rattle.sheet_rules.specs.declared.Key.{Key}
+use Rattle.sheet_rules.specs.declared.Operation.{Operation}
+use Rattle.sheet_rules.specs.declared.Operation.the-variants.{New, Call, Get, Put, Copy}
+use Rattle.sheet_rules.specs.declared.Place.{Place}
 use Rattle.sheet_rules.specs.declared.Reason.the-variants.{Malformed, OutOfLimit, NotDefined}
 use Rattle.sheet_rules.specs.Limits.{nameLimit, keepLimit, bodyLimit, instructionLimit}
-use Rattle.sheet_rules.specs.Keys.{codeOf, hasKey, hasInstructionKey}
+use Rattle.sheet_rules.specs.Keys.{stands, operationOf}
 use Rattle.sheet_rules.specs.Sheet.{Row, Instr, new, call, get, put, copy, Part, init, body, Form, noMember, rowAt, sizeOfParts, sizeOfForms}
 use Rattle.sheet_rules.specs.Reader.{Judged, good, demand, Reader, _>>=_, give, one, many, nth, within, existingLine}
 
@@ -20,28 +22,27 @@ pub record FormHeading : Type 0 where
   pub count : ℕ
 
 -- `form=T,C` (The sheet, forms and main)
-unfoldable pub formLine : ℕ → Key → List ℕ → Judged FormHeading
+unfoldable pub formLine : ℕ → Place → List ℕ → Judged FormHeading
 formLine rows k ns =
-    demand (hasKey Key.Form k ns) Malformed
+    demand (stands Place.Form k ns) Malformed
     (demand (leb (nth ns 1) keepLimit) OutOfLimit
     (demand (ltb (nth ns 0) rows) NotDefined
     (good (record { row = nth ns 0; count = nth ns 1 }))))
 
 -- `body=I` or `main=I`, after so many instructions of the sheet (The sheet, forms and main)
-unfoldable pub bodyLine : Key → ℕ → Key → List ℕ → Judged ℕ
+unfoldable pub bodyLine : Place → ℕ → Place → List ℕ → Judged ℕ
 bodyLine wanted used k ns =
-    demand (hasKey wanted k ns) Malformed
+    demand (stands wanted k ns) Malformed
     (demand (within 1 bodyLimit (nth ns 0) && leb (used + nth ns 0) instructionLimit) OutOfLimit
     (good (nth ns 0)))
 
--- the instruction that a key and its numbers make (The sheet, forms and main)
-unfoldable pub instrOf : Key → List ℕ → Instr
-instrOf k ns =
-    cond (eqb (codeOf k) (codeOf Key.New)) (new (nth ns 0) (drop 1 ns))
-    (cond (eqb (codeOf k) (codeOf Key.Call)) (call (nth ns 0) (nth ns 1) (nth ns 2))
-    (cond (eqb (codeOf k) (codeOf Key.Get)) (get (nth ns 0))
-    (cond (eqb (codeOf k) (codeOf Key.Put)) (put (nth ns 0) (nth ns 1))
-    (copy (nth ns 0)))))
+-- the instruction that an operation and its numbers make (The sheet, forms and main)
+abbrev pub instrOf : Operation → List ℕ → Instr
+instrOf New ns = new (nth ns 0) (drop 1 ns)
+instrOf Call ns = call (nth ns 0) (nth ns 1) (nth ns 2)
+instrOf Get ns = get (nth ns 0)
+instrOf Put ns = put (nth ns 0) (nth ns 1)
+instrOf Copy ns = copy (nth ns 0)
 
 -- the name that an instruction has is within its limit (The sheet, forms and main)
 abbrev pub nameAllowed : Instr → Bool
@@ -66,12 +67,12 @@ namesExist forms filled (put n v) = ltb v filled
 namesExist forms filled (copy v) = ltb v filled
 
 -- an instruction line, in a sheet of so many forms, with so many slots filled (The sheet, forms and main)
-unfoldable pub instrLine : ℕ → ℕ → Key → List ℕ → Judged Instr
+unfoldable pub instrLine : ℕ → ℕ → Place → List ℕ → Judged Instr
 instrLine forms filled k ns =
-    demand (hasInstructionKey k ns) Malformed
-    (demand (nameAllowed (instrOf k ns)) OutOfLimit
-    (demand (namesExist forms filled (instrOf k ns)) NotDefined
-    (good (instrOf k ns))))
+    demand (stands (Place.Instruction New) k ns) Malformed
+    (demand (nameAllowed (instrOf (operationOf k) ns)) OutOfLimit
+    (demand (namesExist forms filled (instrOf (operationOf k) ns)) NotDefined
+    (good (instrOf (operationOf k) ns))))
 
 -- i instructions, the first of them with so many slots filled; each fills one more (The sheet, forms and main)
 unfoldable pub readInstrs : ℕ → ℕ → ℕ → Reader (List Instr)
@@ -81,10 +82,10 @@ readInstrs forms filled i = many i (λ before. one (instrLine forms (filled + le
 -- (The sheet, forms and main)
 unfoldable pub readPart : ℕ → ℕ → ℕ → Member → Reader Part
 readPart forms keeps used (Field n r) = do
-  k ← one (existingLine Key.Init keeps)
+  k ← one (existingLine Place.Init keeps)
   give (init k)
 readPart forms keeps used (Method n a r) = do
-  i ← one (bodyLine Key.Body used)
+  i ← one (bodyLine Place.Body used)
   is ← readInstrs forms (suc (suc keeps)) i
   give (body is)
 
@@ -92,7 +93,7 @@ readPart forms keeps used (Method n a r) = do
 unfoldable pub readForm : List Row → ℕ → List Form → Reader Form
 readForm rows forms earlier = do
   h ← one (formLine (length rows))
-  keeps ← many (h .count) (λ before. one (existingLine Key.Keep (length rows))) []
+  keeps ← many (h .count) (λ before. one (existingLine Place.Keep (length rows))) []
   let members : List Member = (rowAt rows (h .row)) .members
   parts ← many (length members)
       (λ before. readPart forms (length keeps) (sizeOfForms earlier + sizeOfParts before) (getD members (length before) noMember))

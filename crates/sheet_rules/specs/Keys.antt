@@ -1,39 +1,23 @@
--- The keys: how each is spelled, how many numbers follow it, and which are instructions (document 01, The sheet).
+-- The keys: how each is spelled, how many numbers follow it, and where it may stand (document 01, The sheet).
 -- Stands on the shared types and the characters' numbers.
 use Prim.Native.Nat.{ℕ}
 use Prim.Native.Char.{code}
 use Prim.Native.String.{String}
-use mathlib.Core.Bool.{Bool, true, false, _&&_, _||_, cond}
+use mathlib.Core.Bool.{Bool, true, false, _&&_, cond}
 use mathlib.Core.List.{List, [], _∷_}
 use lib.Dec.{eqb, leb}
 use lib.ListN.{length}
-use Rattle.sheet_rules.specs.declared.Key.{Key}
-use Rattle.sheet_rules.specs.declared.Key.the-variants.{Types, Row, Def, Var, Forms, Form, Keep, Init, Body, Main, New, Call, Get, Put, Copy, Unknown}
+use Rattle.sheet_rules.specs.declared.MemberKind.{MemberKind}
+use Rattle.sheet_rules.specs.declared.MemberKind.the-variants.{Method, Field}
+use Rattle.sheet_rules.specs.declared.Operation.{Operation}
+use Rattle.sheet_rules.specs.declared.Operation.the-variants.{New, Call, Get, Put, Copy}
+use Rattle.sheet_rules.specs.declared.Place.{Place}
+use Rattle.sheet_rules.specs.declared.Place.the-variants.{Types, Row, Member, Forms, Form, Keep, Init, Body, Main, Instruction, Nowhere}
 
 -- the bytes of a quoted text; every character that stands in this crate is a single byte (The sheet)
 unfoldable pub bytes : String → List ℕ
 bytes String.[] = []
 bytes (String._∷_ c s) = code c ∷ bytes s
-
--- the word of a key; no word is empty, so that `Unknown` is spelled by none (The sheet)
-unfoldable pub spelling : Key → List ℕ
-unfolding bytes
-spelling Types = bytes "types"
-spelling Row = bytes "type"
-spelling Def = bytes "def"
-spelling Var = bytes "var"
-spelling Forms = bytes "forms"
-spelling Form = bytes "form"
-spelling Keep = bytes "keep"
-spelling Init = bytes "init"
-spelling Body = bytes "body"
-spelling Main = bytes "main"
-spelling New = bytes "new"
-spelling Call = bytes "call"
-spelling Get = bytes "get"
-spelling Put = bytes "put"
-spelling Copy = bytes "copy"
-spelling Unknown = []
 
 -- how many numbers may follow a key (The sheet)
 pub record Count : Type 0 where
@@ -44,47 +28,62 @@ pub record Count : Type 0 where
 abbrev pub exactly : ℕ → Count
 exactly n = record { fewest = n; most = n }
 
--- the key decides how many numbers follow; `new` has its form and up to 8 slots, and no count suits an unknown word (The sheet)
-abbrev pub countOf : Key → Count
-countOf Types = exactly 1
-countOf Row = exactly 2
-countOf Def = exactly 3
-countOf Var = exactly 2
-countOf Forms = exactly 1
-countOf Form = exactly 2
-countOf Keep = exactly 1
-countOf Init = exactly 1
-countOf Body = exactly 1
-countOf Main = exactly 1
-countOf New = record { fewest = 1; most = 9 }
-countOf Call = exactly 3
-countOf Get = exactly 1
-countOf Put = exactly 2
-countOf Copy = exactly 1
-countOf Unknown = record { fewest = 1; most = 0 }
+-- a key: its word, and how many numbers follow it (The sheet)
+pub record Key : Type 0 where
+  pub word : String
+  pub count : Count
 
--- a number for each key, so that two keys can be compared (The sheet)
-abbrev pub codeOf : Key → ℕ
-codeOf Types = 0
-codeOf Row = 1
-codeOf Def = 2
-codeOf Var = 3
-codeOf Forms = 4
-codeOf Form = 5
-codeOf Keep = 6
-codeOf Init = 7
-codeOf Body = 8
-codeOf Main = 9
-codeOf New = 10
-codeOf Call = 11
-codeOf Get = 12
-codeOf Put = 13
-codeOf Copy = 14
-codeOf Unknown = 15
+-- a key of that word and count (The sheet)
+abbrev pub key : String → Count → Key
+key w c = record { word = w; count = c }
 
--- every key that a sheet may have (The sheet)
-abbrev pub allKeys : List Key
-allKeys = Types ∷ Row ∷ Def ∷ Var ∷ Forms ∷ Form ∷ Keep ∷ Init ∷ Body ∷ Main ∷ New ∷ Call ∷ Get ∷ Put ∷ Copy ∷ []
+-- the key that may stand at a place; `new` has its form and up to 8 slots, and no word and no count suits a line that may stand
+-- nowhere (The sheet)
+abbrev pub keyAt : Place → Key
+keyAt Types = key "types" (exactly 1)
+keyAt Row = key "type" (exactly 2)
+keyAt (Member Method) = key "def" (exactly 3)
+keyAt (Member Field) = key "var" (exactly 2)
+keyAt Forms = key "forms" (exactly 1)
+keyAt Form = key "form" (exactly 2)
+keyAt Keep = key "keep" (exactly 1)
+keyAt Init = key "init" (exactly 1)
+keyAt Body = key "body" (exactly 1)
+keyAt Main = key "main" (exactly 1)
+keyAt (Instruction New) = key "new" (record { fewest = 1; most = 9 })
+keyAt (Instruction Call) = key "call" (exactly 3)
+keyAt (Instruction Get) = key "get" (exactly 1)
+keyAt (Instruction Put) = key "put" (exactly 2)
+keyAt (Instruction Copy) = key "copy" (exactly 1)
+keyAt Nowhere = key "" (record { fewest = 1; most = 0 })
+
+-- every place that a key has (The sheet)
+abbrev pub allPlaces : List Place
+allPlaces =
+    Types
+    ∷ Row
+    ∷ Member Method
+    ∷ Member Field
+    ∷ Forms
+    ∷ Form
+    ∷ Keep
+    ∷ Init
+    ∷ Body
+    ∷ Main
+    ∷ Instruction New
+    ∷ Instruction Call
+    ∷ Instruction Get
+    ∷ Instruction Put
+    ∷ Instruction Copy
+    ∷ []
+
+-- the word of the key at a place (The sheet)
+abbrev pub spelling : Place → List ℕ
+spelling k = bytes ((keyAt k) .word)
+
+-- the key decides how many numbers follow (The sheet)
+abbrev pub countOf : Place → Count
+countOf k = (keyAt k) .count
 
 -- two lists of bytes are the same (The sheet)
 unfoldable pub sameBytes : List ℕ → List ℕ → Bool
@@ -93,19 +92,65 @@ sameBytes [] (c ∷ cs) = false
 sameBytes (b ∷ bs) [] = false
 sameBytes (b ∷ bs) (c ∷ cs) = eqb b c && sameBytes bs cs
 
--- the first of some keys that a word spells (The sheet)
-unfoldable pub keyAmong : List Key → List ℕ → Key
-keyAmong [] w = Unknown
-keyAmong (k ∷ ks) w = cond (sameBytes (spelling k) w) k (keyAmong ks w)
+-- the first of some places whose key a word spells (The sheet)
+unfoldable pub placeAmong : List Place → List ℕ → Place
+placeAmong [] w = Nowhere
+placeAmong (k ∷ ks) w = cond (sameBytes (spelling k) w) k (placeAmong ks w)
 
--- the key that a word spells (The sheet)
-abbrev pub keyOf : List ℕ → Key
-keyOf w = keyAmong allKeys w
+-- where a line of a word may stand (The sheet)
+abbrev pub placeOf : List ℕ → Place
+placeOf w = placeAmong allPlaces w
 
--- the line has the wanted key, with as many numbers as that key asks for (The sheet)
-abbrev pub hasKey : Key → Key → List ℕ → Bool
-hasKey wanted k ns = eqb (codeOf k) (codeOf wanted) && leb ((countOf wanted) .fewest) (length ns) && leb (length ns) ((countOf wanted) .most)
+-- a number for each place, so that two can be compared; which of a place's keys it is makes no difference (The sheet)
+abbrev pub placeNumber : Place → ℕ
+placeNumber Types = 0
+placeNumber Row = 1
+placeNumber (Member kind) = 2
+placeNumber Forms = 3
+placeNumber Form = 4
+placeNumber Keep = 5
+placeNumber Init = 6
+placeNumber Body = 7
+placeNumber Main = 8
+placeNumber (Instruction operation) = 9
+placeNumber Nowhere = 10
 
--- the line has the key of an instruction, with as many numbers as that key asks for (The sheet)
-abbrev pub hasInstructionKey : Key → List ℕ → Bool
-hasInstructionKey k ns = hasKey New k ns || hasKey Call k ns || hasKey Get k ns || hasKey Put k ns || hasKey Copy k ns
+-- two places are the same, whichever of its keys it is (The sheet)
+abbrev pub samePlace : Place → Place → Bool
+samePlace a b = eqb (placeNumber a) (placeNumber b)
+
+-- so many numbers may follow the key of a place (The sheet)
+abbrev pub takes : Place → ℕ → Bool
+takes k n = leb ((countOf k) .fewest) n && leb n ((countOf k) .most)
+
+-- the line has a key of the wanted place, with as many numbers as that key asks for (The sheet)
+abbrev pub stands : Place → Place → List ℕ → Bool
+stands wanted k ns = samePlace k wanted && takes k (length ns)
+
+-- which kind of member a key of that place makes; no other place is asked (The sheet)
+abbrev pub memberKind : Place → MemberKind
+memberKind (Member kind) = kind
+memberKind Types = Field
+memberKind Row = Field
+memberKind Forms = Field
+memberKind Form = Field
+memberKind Keep = Field
+memberKind Init = Field
+memberKind Body = Field
+memberKind Main = Field
+memberKind (Instruction operation) = Field
+memberKind Nowhere = Field
+
+-- what a key of an instruction's place does; no other place is asked (The sheet)
+abbrev pub operationOf : Place → Operation
+operationOf (Instruction operation) = operation
+operationOf Types = Copy
+operationOf Row = Copy
+operationOf (Member kind) = Copy
+operationOf Forms = Copy
+operationOf Form = Copy
+operationOf Keep = Copy
+operationOf Init = Copy
+operationOf Body = Copy
+operationOf Main = Copy
+operationOf Nowhere = Copy

@@ -4,9 +4,9 @@ use Prim.Native.Nat.{ℕ, _+_, _*_, _-_}
 use mathlib.Core.Bool.{Bool, true, false, not, cond, _&&_}
 use mathlib.Core.List.{List, [], _∷_}
 use lib.Dec.{eqb, leb}
-use Rattle.sheet_rules.specs.declared.Key.{Key}
+use Rattle.sheet_rules.specs.declared.Place.{Place}
 use Rattle.sheet_rules.specs.Limits.{decimalLimit}
-use Rattle.sheet_rules.specs.Keys.{keyOf}
+use Rattle.sheet_rules.specs.Keys.{placeOf}
 
 -- ends a line (The sheet)
 abbrev pub newline : ℕ
@@ -76,14 +76,14 @@ unfoldable pub values : List (List ℕ) → List ℕ
 values [] = []
 values (p ∷ ps) = valueOf p ∷ values ps
 
--- a line in the sheet's shape with its key and numbers, or any other (The sheet)
+-- a line in the sheet's shape, with the place of its key and its numbers, or any other (The sheet)
 pub data Line : Type 0 where
-  line : Key → List ℕ → Line
+  line : Place → List ℕ → Line
   torn : Line
 
 -- a key and the pieces between its commas: all are decimals, or the line is torn (The sheet)
 unfoldable pub numbered : List ℕ → List (List ℕ) → Line
-numbered w ps = cond (allDecimals ps) (line (keyOf w) (values ps)) torn
+numbered w ps = cond (allDecimals ps) (line (placeOf w) (values ps)) torn
 
 -- the pieces between a line's equal signs: a key, and decimals with `,` between them (The sheet)
 unfoldable pub keyed : List (List ℕ) → Line

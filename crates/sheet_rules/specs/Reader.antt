@@ -5,10 +5,10 @@ use mathlib.Core.Bool.{Bool, true, false, _&&_}
 use mathlib.Core.List.{List, [], _∷_, _++_}
 use lib.Dec.{leb, ltb}
 use lib.ListN.{getD}
-use Rattle.sheet_rules.specs.declared.Key.{Key}
+use Rattle.sheet_rules.specs.declared.Place.{Place}
 use Rattle.sheet_rules.specs.declared.Reason.{Reason}
 use Rattle.sheet_rules.specs.declared.Reason.the-variants.{Malformed, OutOfLimit, NotDefined}
-use Rattle.sheet_rules.specs.Keys.{hasKey}
+use Rattle.sheet_rules.specs.Keys.{stands}
 use Rattle.sheet_rules.specs.Lines.{Line, line, torn}
 
 infixl 20 _>>=_
@@ -50,8 +50,8 @@ unfoldable pub settle : {A : Type 0} → Judged A → List Line → ℕ → Read
 settle (good a) ls n = got a ls (suc n)
 settle (bad r) ls n = refused r n
 
--- one line: it must be there and in the sheet's shape, and is then judged by its key and numbers (Turned away)
-unfoldable pub one : {A : Type 0} → (Key → List ℕ → Judged A) → Reader A
+-- one line: it must be there and in the sheet's shape, and is then judged by its place and numbers (Turned away)
+unfoldable pub one : {A : Type 0} → (Place → List ℕ → Judged A) → Reader A
 one judge [] n = refused Malformed n
 one judge (torn ∷ ls) n = refused Malformed n
 one judge (line k ns ∷ ls) n = settle (judge k ns) ls n
@@ -70,15 +70,15 @@ abbrev pub within : ℕ → ℕ → ℕ → Bool
 within low high n = leb low n && leb n high
 
 -- `types=T` and `forms=F`: a count within its limits (Turned away)
-unfoldable pub countLine : Key → ℕ → ℕ → Key → List ℕ → Judged ℕ
+unfoldable pub countLine : Place → ℕ → ℕ → Place → List ℕ → Judged ℕ
 countLine wanted low high k ns =
-    demand (hasKey wanted k ns) Malformed
+    demand (stands wanted k ns) Malformed
     (demand (within low high (nth ns 0)) OutOfLimit
     (good (nth ns 0)))
 
 -- a line with one number that counts something there: `keep=T` a row, `init=k` a kept value (Turned away)
-unfoldable pub existingLine : Key → ℕ → Key → List ℕ → Judged ℕ
+unfoldable pub existingLine : Place → ℕ → Place → List ℕ → Judged ℕ
 existingLine wanted there k ns =
-    demand (hasKey wanted k ns) Malformed
+    demand (stands wanted k ns) Malformed
     (demand (ltb (nth ns 0) there) NotDefined
     (good (nth ns 0)))

@@ -5,7 +5,7 @@ use mathlib.Core.Bool.{cond}
 use mathlib.Core.List.{List, [], _∷_}
 use lib.Dec.{leb}
 use lib.ListN.{length}
-use Rattle.sheet_rules.specs.declared.Key.{Key}
+use Rattle.sheet_rules.specs.declared.Place.{Place}
 use Rattle.sheet_rules.specs.declared.Reason.{Reason}
 use Rattle.sheet_rules.specs.declared.Reason.the-variants.{TextTooLong, Malformed}
 use Rattle.sheet_rules.specs.Limits.{textLimit, rowLimit, formLimit}
@@ -23,11 +23,11 @@ readEnd (l ∷ ls) n = refused Malformed n
 -- rows, forms and main, in this order (The sheet)
 unfoldable pub readSheet : Reader Sheet
 readSheet = do
-  t ← one (countLine Key.Types 1 rowLimit)
+  t ← one (countLine Place.Types 1 rowLimit)
   rows ← many t readRow []
-  f ← one (countLine Key.Forms 0 formLimit)
+  f ← one (countLine Place.Forms 0 formLimit)
   forms ← many f (readForm rows f) []
-  i ← one (bodyLine Key.Main (sizeOfForms forms))
+  i ← one (bodyLine Place.Main (sizeOfForms forms))
   main ← readInstrs f 0 i
   _ ← readEnd
   give (record { rows = rows; forms = forms; main = main })

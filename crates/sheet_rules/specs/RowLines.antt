@@ -1,6 +1,6 @@
 -- The lines of the type rows (document 01, The sheet, `types`; Turned away, 3 to 7). Stands on Limits, Keys, Sheet, Reader.
 use Prim.Native.Nat.{ℕ, zero, suc}
-use mathlib.Core.Bool.{Bool, true, false, not, cond, _&&_, _||_}
+use mathlib.Core.Bool.{Bool, true, false, not, _&&_, _||_}
 use mathlib.Core.List.{List, [], _∷_, _++_}
 use lib.Dec.{eqb, leb, ltb}
 use lib.ListN.{length}
@@ -8,10 +8,11 @@ use Rattle.sheet_rules.specs.declared.Kind.{Kind}
 use Rattle.sheet_rules.specs.declared.Kind.the-variants.{Pure, Resource}
 use Rattle.sheet_rules.specs.declared.Member.{Member}
 use Rattle.sheet_rules.specs.declared.Member.the-variants.{Method, Field}
-use Rattle.sheet_rules.specs.declared.Key.{Key}
+use Rattle.sheet_rules.specs.declared.MemberKind.{MemberKind}
+use Rattle.sheet_rules.specs.declared.Place.{Place}
 use Rattle.sheet_rules.specs.declared.Reason.the-variants.{Malformed, OutOfLimit, NotAscending, DuplicateRow, NotDefined}
 use Rattle.sheet_rules.specs.Limits.{memberLimit, nameLimit}
-use Rattle.sheet_rules.specs.Keys.{codeOf, hasKey}
+use Rattle.sheet_rules.specs.Keys.{stands, memberKind}
 use Rattle.sheet_rules.specs.Sheet.{Row}
 use Rattle.sheet_rules.specs.Reader.{Judged, good, demand, Reader, _>>=_, give, one, many, nth}
 
@@ -61,9 +62,9 @@ pub record Heading : Type 0 where
   pub count : ℕ
 
 -- `type=K,M`; for a row without members this is its last line, where a twin is refused (The sheet, rows)
-unfoldable pub rowLine : List Row → Key → List ℕ → Judged Heading
+unfoldable pub rowLine : List Row → Place → List ℕ → Judged Heading
 rowLine earlier k ns =
-    demand (hasKey Key.Row k ns) Malformed
+    demand (stands Place.Row k ns) Malformed
     (demand (leb (nth ns 0) 1 && leb (nth ns 1) memberLimit) OutOfLimit
     (demand (not (eqb (nth ns 1) 0 && twin earlier (record { kind = kindOf (nth ns 0); members = [] }))) DuplicateRow
     (good (record { kind = kindOf (nth ns 0); count = nth ns 1 }))))
@@ -75,8 +76,9 @@ ascends (x ∷ []) n = ltb (nameOf x) n
 ascends (x ∷ y ∷ ys) n = ascends (y ∷ ys) n
 
 -- `def=N,A,R` or `var=N,F` (The sheet, rows)
-abbrev pub memberOf : Key → List ℕ → Member
-memberOf k ns = cond (eqb (codeOf k) (codeOf Key.Def)) (Method (nth ns 0) (nth ns 1) (nth ns 2)) (Field (nth ns 0) (nth ns 1))
+abbrev pub memberOf : MemberKind → List ℕ → Member
+memberOf MemberKind.Method ns = Method (nth ns 0) (nth ns 1) (nth ns 2)
+memberOf MemberKind.Field ns = Field (nth ns 0) (nth ns 1)
 
 -- the rows that a member mentions are below a number (The sheet, rows)
 abbrev pub mentionsBelow : ℕ → Member → Bool
@@ -84,18 +86,18 @@ mentionsBelow i (Method n a r) = ltb a i && ltb r i
 mentionsBelow i (Field n r) = ltb r i
 
 -- a member line, after the row's heading and the members before it; the last one completes the row (The sheet, rows)
-unfoldable pub memberLine : List Row → Heading → List Member → Key → List ℕ → Judged Member
+unfoldable pub memberLine : List Row → Heading → List Member → Place → List ℕ → Judged Member
 memberLine earlier h before k ns =
-    demand (hasKey Key.Def k ns || hasKey Key.Var k ns) Malformed
+    demand (stands (Place.Member MemberKind.Method) k ns) Malformed
     (demand (leb (nth ns 0) nameLimit) OutOfLimit
     (demand (ascends before (nth ns 0)) NotAscending
     (demand
     (not
     (eqb (suc (length before)) (h .count)
-    && twin earlier (record { kind = h .kind; members = before ++ (memberOf k ns ∷ []) })))
+    && twin earlier (record { kind = h .kind; members = before ++ (memberOf (memberKind k) ns ∷ []) })))
     DuplicateRow
-    (demand (mentionsBelow (length earlier) (memberOf k ns)) NotDefined
-    (good (memberOf k ns))))))
+    (demand (mentionsBelow (length earlier) (memberOf (memberKind k) ns)) NotDefined
+    (good (memberOf (memberKind k) ns))))))
 
 -- a row, after the earlier ones (The sheet, rows)
 unfoldable pub readRow : List Row → Reader Row

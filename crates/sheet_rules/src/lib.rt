@@ -19,24 +19,34 @@ pub enum Member {
     },
 }
 
-// The key of a line. `Row` is spelled `type`; `Unknown` is any other word, and may stand nowhere.
-pub enum Key {
+// The two kinds of member.
+pub enum MemberKind {
+    Method,
+    Field,
+}
+
+// What an instruction does.
+pub enum Operation {
+    New,
+    Call,
+    Get,
+    Put,
+    Copy,
+}
+
+// Where a line may stand, by its key. Where several keys may stand, it says which one it is; a word that is no key may stand nowhere.
+pub enum Place {
     Types,
     Row,
-    Def,
-    Var,
+    Member { kind: MemberKind },
     Forms,
     Form,
     Keep,
     Init,
     Body,
     Main,
-    New,
-    Call,
-    Get,
-    Put,
-    Copy,
-    Unknown,
+    Instruction { operation: Operation },
+    Nowhere,
 }
 
 // Why a call is refused, in the order of the paper's numbers 1 to 11.

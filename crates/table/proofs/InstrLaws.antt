@@ -26,27 +26,27 @@ module _ (w : List ℕ) (p b : ℕ) (place : b ≡ instrAddress p) where
   unfolding instrIn
   coded c e = ap (λ (x : ℕ). instrFrom x (cell w (instrAddress p + 1)) (numbersIn w p)) (sym e ∙ ap (cell w) place)
 
-  pub instr-new : cell w b ≡ 10 → new (cell w (b + 2)) (newSlots w p) ≡ instrIn w p
+  pub instr-new : cell w b ≡ 0 → new (cell w (b + 2)) (newSlots w p) ≡ instrIn w p
   unfolding instrFrom newSlots
-  instr-new e = ap (λ (f : ℕ). new f (newSlots w p)) (number 0 (omega arith)) ∙ coded 10 e
+  instr-new e = ap (λ (f : ℕ). new f (newSlots w p)) (number 0 (omega arith)) ∙ coded 0 e
 
-  pub instr-call : cell w b ≡ 11 → call (cell w (b + 2)) (cell w (b + 3)) (cell w (b + 4)) ≡ instrIn w p
+  pub instr-call : cell w b ≡ 1 → call (cell w (b + 2)) (cell w (b + 3)) (cell w (b + 4)) ≡ instrIn w p
   unfolding instrFrom
-  instr-call e = (λ x. call (number 0 (omega arith) x) (number 1 (omega arith) x) (number 2 (omega arith) x)) ∙ coded 11 e
+  instr-call e = (λ x. call (number 0 (omega arith) x) (number 1 (omega arith) x) (number 2 (omega arith) x)) ∙ coded 1 e
 
-  pub instr-get : cell w b ≡ 12 → get (cell w (b + 2)) ≡ instrIn w p
+  pub instr-get : cell w b ≡ 2 → get (cell w (b + 2)) ≡ instrIn w p
   unfolding instrFrom
-  instr-get e = ap get (number 0 (omega arith)) ∙ coded 12 e
+  instr-get e = ap get (number 0 (omega arith)) ∙ coded 2 e
 
-  pub instr-put : cell w b ≡ 13 → put (cell w (b + 2)) (cell w (b + 3)) ≡ instrIn w p
+  pub instr-put : cell w b ≡ 3 → put (cell w (b + 2)) (cell w (b + 3)) ≡ instrIn w p
   unfolding instrFrom
-  instr-put e = (λ x. put (number 0 (omega arith) x) (number 1 (omega arith) x)) ∙ coded 13 e
+  instr-put e = (λ x. put (number 0 (omega arith) x) (number 1 (omega arith) x)) ∙ coded 3 e
 
-  pub instr-copy : (cell w b ≡ 10 → ⊥) → (cell w b ≡ 11 → ⊥) → (cell w b ≡ 12 → ⊥) → (cell w b ≡ 13 → ⊥) → copy (cell w (b + 2)) ≡ instrIn w p
+  pub instr-copy : (cell w b ≡ 0 → ⊥) → (cell w b ≡ 1 → ⊥) → (cell w b ≡ 2 → ⊥) → (cell w b ≡ 3 → ⊥) → copy (cell w (b + 2)) ≡ instrIn w p
   unfolding instrFrom
   instr-copy n c g u =
       ap copy (number 0 (omega arith))
-      ∙ sym (λ x. chosen (ne-eqb (cell w b) 10 n x) (ne-eqb (cell w b) 11 c x) (ne-eqb (cell w b) 12 g x) (ne-eqb (cell w b) 13 u x))
+      ∙ sym (λ x. chosen (ne-eqb (cell w b) 0 n x) (ne-eqb (cell w b) 1 c x) (ne-eqb (cell w b) 2 g x) (ne-eqb (cell w b) 3 u x))
       ∙ coded (cell w b) refl
     where
       chosen : Bool → Bool → Bool → Bool → Instr

@@ -34,7 +34,7 @@ keepAddress f j = formAddress f + (3 + min j 7)
 abbrev pub partAddress : ℕ → ℕ → ℕ
 partAddress f j = formAddress f + (11 + 3 * min j 7)
 
--- 1,024 instructions of 11: the key's code, how many numbers, and 9 numbers
+-- 1,024 instructions of 11: the operation's code, how many numbers, and 9 numbers
 abbrev pub instrAddress : ℕ → ℕ
 instrAddress p = 4624 + 11 * min p 1023
 

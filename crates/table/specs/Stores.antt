@@ -1,12 +1,24 @@
--- The buffer after a store of the reader's: the sheet's counts, a form's heading, a part. Stands on Layout.
+-- The buffer after a store of the reader's. Stands on Layout and View.
 use Prim.Native.Nat.{ℕ, _+_}
 use mathlib.Core.List.{List}
 use lib.ListN.{set}
-use Rattle.table.specs.Layout.{rowCountAt, mainCountAt, rowAddress, formAddress, partAddress}
+use Rattle.sheet_rules.specs.declared.MemberKind.{MemberKind}
+use Rattle.sheet_rules.specs.declared.Operation.{Operation}
+use Rattle.table.specs.Layout.{rowCountAt, mainCountAt, rowAddress, memberAddress, formAddress, partAddress, instrAddress}
+use Rattle.table.specs.View.{kindTag, operationCode}
 
 -- a row's kind, and how many members it has
 abbrev pub rowHeadPut : List ℕ → ℕ → ℕ → ℕ → List ℕ
 rowHeadPut w i kind members = set (set w (rowAddress i) kind) (rowAddress i + 1) members
+
+-- a member's kind, its name, and its one or two rows
+abbrev pub memberPut : List ℕ → ℕ → ℕ → MemberKind → ℕ → ℕ → ℕ → List ℕ
+memberPut w i j kind name first second =
+    set (set (set (set w (memberAddress i j) (kindTag kind)) (memberAddress i j + 1) name) (memberAddress i j + 2) first) (memberAddress i j + 3) second
+
+-- an instruction's operation, and how many numbers it has
+abbrev pub operationPut : List ℕ → ℕ → Operation → ℕ → List ℕ
+operationPut w p operation count = set (set w (instrAddress p) (operationCode operation)) (instrAddress p + 1) count
 
 -- three numbers from a place on
 unfoldable pub threePut : List ℕ → ℕ → ℕ → ℕ → ℕ → List ℕ

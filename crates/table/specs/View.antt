@@ -7,6 +7,9 @@ use lib.ListN.{getD, take, drop}
 use Rattle.lists.specs.Tab.{tab}
 use Rattle.sheet_rules.specs.declared.Member.{Member}
 use Rattle.sheet_rules.specs.declared.Member.the-variants.{Method, Field}
+use Rattle.sheet_rules.specs.declared.MemberKind.{MemberKind}
+use Rattle.sheet_rules.specs.declared.Operation.{Operation}
+use Rattle.sheet_rules.specs.declared.Operation.the-variants.{New, Call, Get, Put, Copy}
 use Rattle.sheet_rules.specs.Sheet.{Row, Instr, new, call, get, put, copy, Part, init, body, Form, Sheet}
 use Rattle.sheet_rules.specs.Reader.{nth}
 use Rattle.sheet_rules.specs.RowLines.{kindOf}
@@ -15,6 +18,11 @@ use Rattle.table.specs.Layout.{rowCountAt, formCountAt, mainStartAt, mai
 -- the number at a place; 0 past the end
 abbrev pub cell : List ℕ → ℕ → ℕ
 cell w i = getD w i 0
+
+-- how a member's kind is stored
+abbrev pub kindTag : MemberKind → ℕ
+kindTag MemberKind.Method = 0
+kindTag MemberKind.Field = 1
 
 -- a member from its four numbers
 abbrev pub memberFrom : ℕ → ℕ → ℕ → ℕ → Member
@@ -41,13 +49,21 @@ rowsIn w n = tab (rowIn w) n
 abbrev pub numbersIn : List ℕ → ℕ → List ℕ
 numbersIn w p = tab (λ k. cell w (instrAddress p + (2 + k))) 9
 
--- an instruction from its key's code, how many numbers it has, and all nine; only a `new` has more or fewer of them
+-- how an operation is stored
+abbrev pub operationCode : Operation → ℕ
+operationCode New = 0
+operationCode Call = 1
+operationCode Get = 2
+operationCode Put = 3
+operationCode Copy = 4
+
+-- an instruction from its operation's code, how many numbers it has, and all nine; only a `new` has more or fewer of them
 unfoldable pub instrFrom : ℕ → ℕ → List ℕ → Instr
 instrFrom code count ns =
-    cond (eqb code 10) (new (nth ns 0) (drop 1 (take count ns)))
-    (cond (eqb code 11) (call (nth ns 0) (nth ns 1) (nth ns 2))
-    (cond (eqb code 12) (get (nth ns 0))
-    (cond (eqb code 13) (put (nth ns 0) (nth ns 1)) (copy (nth ns 0)))))
+    cond (eqb code (operationCode New)) (new (nth ns 0) (drop 1 (take count ns)))
+    (cond (eqb code (operationCode Call)) (call (nth ns 0) (nth ns 1) (nth ns 2))
+    (cond (eqb code (operationCode Get)) (get (nth ns 0))
+    (cond (eqb code (operationCode Put)) (put (nth ns 0) (nth ns 1)) (copy (nth ns 0)))))
 
 -- instruction p of the pool
 unfoldable pub instrIn : List ℕ → ℕ → Instr

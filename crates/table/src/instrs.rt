@@ -54,14 +54,14 @@ fn instr_from(work: &[u16], at: usize) -> Instruction
     ensures { λ r. ⌜ ToldFrom (now (work .entry)) at r ⌝ }
 {
     match work[at] {
-        10 => Instruction::New { form: work[at + 2] },
-        11 => Instruction::Call {
+        0 => Instruction::New { form: work[at + 2] },
+        1 => Instruction::Call {
             object: work[at + 2],
             name: work[at + 3],
             argument: work[at + 4],
         },
-        12 => Instruction::Get { name: work[at + 2] },
-        13 => Instruction::Put {
+        2 => Instruction::Get { name: work[at + 2] },
+        3 => Instruction::Put {
             name: work[at + 2],
             value: work[at + 3],
         },

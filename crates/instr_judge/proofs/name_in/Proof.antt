@@ -1,153 +1,54 @@
 use mathlib.Core.Path.{sym, ap}
-use Rattle.sheet_rules.specs.declared.Key.{Key}
+use Rattle.sheet_rules.specs.declared.Operation.{Operation}
 use Rattle.instr_judge.specs.Named.{nameIn}
 use borrow.Author.Needs.{needs}
 use Rattle.instr_judge.proofs.name_in.Statement.{statement}
 use Rattle.instr_judge.proofs.name_in.Tie as tie
 
--- src/lib.rt:41:22
+-- src/lib.rt:23:27
 enum-told : tie.Need-enum-told
 enum-told c = search needs
 
--- src/lib.rt:42:21
+-- src/lib.rt:24:28
 enum-told-2 : tie.Need-enum-told-2
 enum-told-2 c = search needs
 
--- src/lib.rt:43:21
+-- src/lib.rt:25:27
 enum-told-3 : tie.Need-enum-told-3
 enum-told-3 c = search needs
 
--- src/lib.rt:44:23
+-- src/lib.rt:26:27
 enum-told-4 : tie.Need-enum-told-4
 enum-told-4 c = search needs
 
--- src/lib.rt:45:21
+-- src/lib.rt:27:28
 enum-told-5 : tie.Need-enum-told-5
 enum-told-5 c = search needs
 
--- src/lib.rt:46:21
-enum-told-6 : tie.Need-enum-told-6
-enum-told-6 c = search needs
-
--- src/lib.rt:47:21
-enum-told-7 : tie.Need-enum-told-7
-enum-told-7 c = search needs
-
--- src/lib.rt:48:23
-enum-told-8 : tie.Need-enum-told-8
-enum-told-8 c = search needs
-
--- src/lib.rt:49:22
-enum-told-9 : tie.Need-enum-told-9
-enum-told-9 c = search needs
-
--- src/lib.rt:50:22
-enum-told-10 : tie.Need-enum-told-10
-enum-told-10 c = search needs
-
--- src/lib.rt:51:22
-enum-told-11 : tie.Need-enum-told-11
-enum-told-11 c = search needs
-
--- src/lib.rt:52:22
-enum-told-12 : tie.Need-enum-told-12
-enum-told-12 c = search needs
-
--- src/lib.rt:53:22
-enum-told-13 : tie.Need-enum-told-13
-enum-told-13 c = search needs
-
--- src/lib.rt:54:21
-enum-told-14 : tie.Need-enum-told-14
-enum-told-14 c = search needs
-
--- src/lib.rt:55:22
-enum-told-15 : tie.Need-enum-told-15
-enum-told-15 c = search needs
-
--- src/lib.rt:56:25
-enum-told-16 : tie.Need-enum-told-16
-enum-told-16 c = search needs
-
--- src/lib.rt:37:1
+-- src/lib.rt:19:1
 returns : tie.Need-returns
 unfolding nameIn
-returns c = sym (ap (λ (k : Key). nameIn k (c .before .before .args .numbers)) (c .enum-told .given .1))
+returns c = sym (ap (λ (o : Operation). nameIn o (c .before .before .args .numbers)) (c .enum-told .given .1))
 
--- src/lib.rt:37:1
+-- src/lib.rt:19:1
 returns-2 : tie.Need-returns-2
 unfolding nameIn
-returns-2 c = sym (ap (λ (k : Key). nameIn k (c .before .before .args .numbers)) (c .enum-told2 .given .1))
+returns-2 c = sym (ap (λ (o : Operation). nameIn o (c .before .before .args .numbers)) (c .enum-told2 .given .1))
 
--- src/lib.rt:37:1
+-- src/lib.rt:19:1
 returns-3 : tie.Need-returns-3
 unfolding nameIn
-returns-3 c = sym (ap (λ (k : Key). nameIn k (c .before .before .args .numbers)) (c .enum-told3 .given .1))
+returns-3 c = sym (ap (λ (o : Operation). nameIn o (c .before .before .args .numbers)) (c .enum-told3 .given .1))
 
--- src/lib.rt:37:1
+-- src/lib.rt:19:1
 returns-4 : tie.Need-returns-4
 unfolding nameIn
-returns-4 c = sym (ap (λ (k : Key). nameIn k (c .before .before .args .numbers)) (c .enum-told4 .given .1))
+returns-4 c = sym (ap (λ (o : Operation). nameIn o (c .before .before .args .numbers)) (c .enum-told4 .given .1))
 
--- src/lib.rt:37:1
+-- src/lib.rt:19:1
 returns-5 : tie.Need-returns-5
 unfolding nameIn
-returns-5 c = sym (ap (λ (k : Key). nameIn k (c .before .before .args .numbers)) (c .enum-told5 .given .1))
-
--- src/lib.rt:37:1
-returns-6 : tie.Need-returns-6
-unfolding nameIn
-returns-6 c = sym (ap (λ (k : Key). nameIn k (c .before .before .args .numbers)) (c .enum-told6 .given .1))
-
--- src/lib.rt:37:1
-returns-7 : tie.Need-returns-7
-unfolding nameIn
-returns-7 c = sym (ap (λ (k : Key). nameIn k (c .before .before .args .numbers)) (c .enum-told7 .given .1))
-
--- src/lib.rt:37:1
-returns-8 : tie.Need-returns-8
-unfolding nameIn
-returns-8 c = sym (ap (λ (k : Key). nameIn k (c .before .before .args .numbers)) (c .enum-told8 .given .1))
-
--- src/lib.rt:37:1
-returns-9 : tie.Need-returns-9
-unfolding nameIn
-returns-9 c = sym (ap (λ (k : Key). nameIn k (c .before .before .args .numbers)) (c .enum-told9 .given .1))
-
--- src/lib.rt:37:1
-returns-10 : tie.Need-returns-10
-unfolding nameIn
-returns-10 c = sym (ap (λ (k : Key). nameIn k (c .before .before .args .numbers)) (c .enum-told10 .given .1))
-
--- src/lib.rt:37:1
-returns-11 : tie.Need-returns-11
-unfolding nameIn
-returns-11 c = sym (ap (λ (k : Key). nameIn k (c .before .before .args .numbers)) (c .enum-told11 .given .1))
-
--- src/lib.rt:37:1
-returns-12 : tie.Need-returns-12
-unfolding nameIn
-returns-12 c = sym (ap (λ (k : Key). nameIn k (c .before .before .args .numbers)) (c .enum-told12 .given .1))
-
--- src/lib.rt:37:1
-returns-13 : tie.Need-returns-13
-unfolding nameIn
-returns-13 c = sym (ap (λ (k : Key). nameIn k (c .before .before .args .numbers)) (c .enum-told13 .given .1))
-
--- src/lib.rt:37:1
-returns-14 : tie.Need-returns-14
-unfolding nameIn
-returns-14 c = sym (ap (λ (k : Key). nameIn k (c .before .before .args .numbers)) (c .enum-told14 .given .1))
-
--- src/lib.rt:37:1
-returns-15 : tie.Need-returns-15
-unfolding nameIn
-returns-15 c = sym (ap (λ (k : Key). nameIn k (c .before .before .args .numbers)) (c .enum-told15 .given .1))
-
--- src/lib.rt:37:1
-returns-16 : tie.Need-returns-16
-unfolding nameIn
-returns-16 c = sym (ap (λ (k : Key). nameIn k (c .before .before .args .numbers)) (c .enum-told16 .given .1))
+returns-5 c = sym (ap (λ (o : Operation). nameIn o (c .before .before .args .numbers)) (c .enum-told5 .given .1))
 
 pub name-in-spec : {M : Type 1} → statement M
 name-in-spec =
@@ -158,30 +59,8 @@ name-in-spec =
     enum-told-3
     enum-told-4
     enum-told-5
-    enum-told-6
-    enum-told-7
-    enum-told-8
-    enum-told-9
-    enum-told-10
-    enum-told-11
-    enum-told-12
-    enum-told-13
-    enum-told-14
-    enum-told-15
-    enum-told-16
     returns
     returns-2
     returns-3
     returns-4
-    returns-5
-    returns-6
-    returns-7
-    returns-8
-    returns-9
-    returns-10
-    returns-11
-    returns-12
-    returns-13
-    returns-14
-    returns-15
-    returns-16)
+    returns-5)

@@ -11,8 +11,8 @@ read-line-requires : tie.Need-read-line-requires
 read-line-requires c κs = search needs
 
 -- src/lib.rt:58:26
-enum-known-key : tie.Need-enum-known-key
-enum-known-key c = search needs
+enum-known-place : tie.Need-enum-known-place
+enum-known-place c = search needs
 
 -- src/lib.rt:60:21
 enum-told : tie.Need-enum-told
@@ -20,11 +20,11 @@ enum-told c = search needs
 
 -- src/lib.rt:59:9
 returns : tie.Need-returns
-returns c = reads-torn (c .before .before .before .before .args .text .now) (c .before .before .before .before .args .at) (c .before .before .before .before .args .line) (existingLine (c .before .before .before .before .args .wanted) (c .before .before .before .before .args .there)) (strict-existing (c .before .before .before .before .args .wanted) (c .before .before .before .before .pre .1) (c .before .before .before .before .args .there)) (sym (c .before .before .read-line .ensures) ∙ c .enum-told .given .1)
+returns c = reads-torn (c .before .before .before .before .args .text .now) (c .before .before .before .before .args .at) (c .before .before .before .before .args .line) (existingLine (c .before .before .before .before .args .wanted) (c .before .before .before .before .args .there)) (strict-existing (c .before .before .before .before .args .wanted) (c .before .before .before .before .args .there)) (sym (c .before .before .read-line .ensures) ∙ c .enum-told .given .1)
 
 -- src/lib.rt:64:17
 existing-line-requires : tie.Need-existing-line-requires
-existing-line-requires c κs = (line-taken (c .before .before .before .before .before .args .text .now) (c .before .before .before .before .before .args .at) _ _ _ (sym (c .before .before .before .read-line .ensures) ∙ c .before .key .given .1)) .few
+existing-line-requires c κs = (line-taken (c .before .before .before .before .before .args .text .now) (c .before .before .before .before .before .args .at) _ _ _ (sym (c .before .before .before .read-line .ensures) ∙ c .before .place .given .1)) .fitting
 
 -- src/lib.rt:64:5
 number-line-requires : tie.Need-number-line-requires
@@ -33,7 +33,7 @@ number-line-requires c κs = search needs
 -- src/lib.rt:54:1
 returns-2 : tie.Need-returns-2
 returns-2 c =
-    reads-line (c .before .before .before .before .before .before .before .args .text .now) (c .before .before .before .before .before .before .before .args .at) (c .before .before .before .before .before .before .before .args .line) (existingLine (c .before .before .before .before .before .before .before .args .wanted) (c .before .before .before .before .before .before .before .args .there)) (c .before .before .before .before .before .before .before .pre .0) _ _ _ (sym (c .before .before .before .before .before .read-line .ensures) ∙ c .before .before .before .key .given .1) (c .before .existing-line .result) (c .before .existing-line .ensures)
+    reads-line (c .before .before .before .before .before .before .before .args .text .now) (c .before .before .before .before .before .before .before .args .at) (c .before .before .before .before .before .before .before .args .line) (existingLine (c .before .before .before .before .before .before .before .args .wanted) (c .before .before .before .before .before .before .before .args .there)) (c .before .before .before .before .before .before .before .pre) _ _ _ (sym (c .before .before .before .before .before .read-line .ensures) ∙ c .before .before .before .place .given .1) (c .before .existing-line .result) (c .before .existing-line .ensures)
     (c .number-line .result) (c .number-line .ensures)
 
 pub read-existing-spec : {M : Type 1} → statement M
@@ -41,7 +41,7 @@ read-existing-spec =
     tie.close
     (tie.spec
     read-line-requires
-    enum-known-key
+    enum-known-place
     enum-told
     returns
     existing-line-requires

@@ -13,8 +13,8 @@ read-line-requires : tie.Need-read-line-requires
 read-line-requires c κs = search needs
 
 -- src/lib.rt:128:26
-enum-known-key : tie.Need-enum-known-key
-enum-known-key c = search needs
+enum-known-place : tie.Need-enum-known-place
+enum-known-place c = search needs
 
 -- src/lib.rt:130:21
 enum-told : tie.Need-enum-told
@@ -26,7 +26,7 @@ returns c = ((λ earlier. pair-torn (c .before .before .before .before .args .te
 
 -- src/lib.rt:134:15
 row-line-requires : tie.Need-row-line-requires
-row-line-requires c κs = (line-taken (c .before .before .before .before .before .args .text .now) (c .before .before .before .before .before .args .at) _ _ _ (sym (c .before .before .before .read-line .ensures) ∙ c .before .key .given .1)) .few
+row-line-requires c κs = (line-taken (c .before .before .before .before .before .args .text .now) (c .before .before .before .before .before .args .at) _ _ _ (sym (c .before .before .before .read-line .ensures) ∙ c .before .place .given .1)) .fitting
 
 -- src/lib.rt:134:5
 pair-line-requires : tie.Need-pair-line-requires
@@ -35,9 +35,9 @@ pair-line-requires c κs = search needs
 -- src/lib.rt:124:1
 returns-2 : tie.Need-returns-2
 returns-2 c = (
-  (λ earlier. pair-read (c .before .before .before .before .before .before .before .args .text .now) (c .before .before .before .before .before .before .before .args .at) (c .before .before .before .before .before .before .before .args .line) (rowLine earlier) (rowTold earlier) (λ q. refl) _ _ _ (sym (c .before .before .before .before .before .read-line .ensures) ∙ c .before .before .before .key .given .1) (c .before .row-line .result) (c .before .row-line .ensures .0 earlier)
+  (λ earlier. pair-read (c .before .before .before .before .before .before .before .args .text .now) (c .before .before .before .before .before .before .before .args .at) (c .before .before .before .before .before .before .before .args .line) (rowLine earlier) (rowTold earlier) (λ q. refl) _ _ _ (sym (c .before .before .before .before .before .read-line .ensures) ∙ c .before .before .before .place .given .1) (c .before .row-line .result) (c .before .row-line .ensures .0 earlier)
       (c .pair-line .result) (c .pair-line .ensures)),
-  pair-onward (c .before .before .before .before .before .before .before .args .text .now) (c .before .before .before .before .before .before .before .args .at) (c .before .before .before .before .before .before .before .args .line) (c .before .before .before .before .before .before .before .pre) _ _ _ (sym (c .before .before .before .before .before .read-line .ensures) ∙ c .before .before .before .key .given .1) (c .before .row-line .result) (c .before .row-line .ensures .1) (c .pair-line .result) (c .pair-line .ensures),
+  pair-onward (c .before .before .before .before .before .before .before .args .text .now) (c .before .before .before .before .before .before .before .args .at) (c .before .before .before .before .before .before .before .args .line) (c .before .before .before .before .before .before .before .pre) _ _ _ (sym (c .before .before .before .before .before .read-line .ensures) ∙ c .before .before .before .place .given .1) (c .before .row-line .result) (c .before .row-line .ensures .1) (c .pair-line .result) (c .pair-line .ensures),
 )
 
 pub read-row-head-spec : {M : Type 1} → statement M
@@ -45,7 +45,7 @@ read-row-head-spec =
     tie.close
     (tie.spec
     read-line-requires
-    enum-known-key
+    enum-known-place
     enum-told
     returns
     row-line-requires

@@ -13,8 +13,8 @@ read-line-requires : tie.Need-read-line-requires
 read-line-requires c κs = search needs
 
 -- src/lib.rt:46:26
-enum-known-key : tie.Need-enum-known-key
-enum-known-key c = search needs
+enum-known-place : tie.Need-enum-known-place
+enum-known-place c = search needs
 
 -- src/lib.rt:48:21
 enum-told : tie.Need-enum-told
@@ -30,7 +30,7 @@ lowest-name-requires c κs = search needs
 
 -- src/lib.rt:53:11
 member-line-requires : tie.Need-member-line-requires
-member-line-requires c κs = (line-taken (c .before .before .before .before .before .before .before .before .args .text .now) (c .before .before .before .before .before .before .before .before .args .at) _ _ _ (sym (c .before .before .before .before .before .read-line .ensures) ∙ c .before .before .before .key .given .1)) .few
+member-line-requires c κs = (line-taken (c .before .before .before .before .before .before .before .before .args .text .now) (c .before .before .before .before .before .before .before .before .args .at) _ _ _ (sym (c .before .before .before .before .before .read-line .ensures) ∙ c .before .before .before .place .given .1)) .fitting
 
 -- src/lib.rt:54:41
 enum-told-2 : tie.Need-enum-told-2
@@ -40,7 +40,10 @@ enum-told-2 c = search needs
 keep-member-requires : tie.Need-keep-member-requires
 keep-member-requires c κs = (
   c .before .before .before .before .before .before .before .before .before .before .before .before .pre .1,
-  c .before .before .before .member-line .ensures .1 (c .before .enum-told2 .given .1),
+  record {
+    fitting = (line-taken (c .before .before .before .before .before .before .before .before .before .before .before .before .args .text .now) (c .before .before .before .before .before .before .before .before .before .before .before .before .args .at) _ _ _ (sym (c .before .before .before .before .before .before .before .before .before .read-line .ensures) ∙ c .before .before .before .before .before .before .before .place .given .1)) .fitting;
+    member = c .before .before .before .member-line .ensures .1 (c .before .enum-told2 .given .1);
+  },
   omega (arith, c .before .before .before .before .before .before .before .before .before .before .before .before .pre .0 .lines, c .before .before .before .before .before .before .before .before .before .before .before .before .pre .0 .inside, c .before .before .before .before .before .before .before .before .before .before .before .before .pre .0 .small),
 )
 
@@ -55,7 +58,7 @@ same-length c = search needs
 -- src/lib.rt:42:1
 returns-2 : tie.Need-returns-2
 returns-2 c =
-    member-kept (c .before .before .before .before .before .before .before .before .before .before .before .before .before .before .before .args .text .now) (c .before .before .before .before .before .before .before .before .before .before .before .before .before .before .before .args .i) (c .before .before .before .before .before .before .before .before .before .before .before .before .before .before .before .args .j) (c .before .before .before .before .before .before .before .before .before .before .before .before .before .before .before .args .at) (c .before .before .before .before .before .before .before .before .before .before .before .before .before .before .before .args .line) (c .before .before .before .before .before .before .before .before .before .before .before .before .before .before .before .args .work .now) _ _ _ (sym (c .before .before .before .before .before .before .before .before .before .before .before .before .read-line .ensures) ∙ c .before .before .before .before .before .before .before .before .before .before .key .given .1) (c .before .before .before .before .before .before .member-line .result) (c .before .before .before .before .before .before .member-line .ensures .0 (rowsIn (c .before .before .before .before .before .before .before .before .before .before .before .before .before .before .before .args .work .now) (c .before .before .before .before .before .before .before .before .before .before .before .before .before .before .before .args .i)) (headingIn (c .before .before .before .before .before .before .before .before .before .before .before .before .before .before .before .args .work .now) (c .before .before .before .before .before .before .before .before .before .before .before .before .before .before .before .args .i)) (membersIn (c .before .before .before .before .before .before .before .before .before .before .before .before .before .before .before .args .work .now) (c .before .before .before .before .before .before .before .before .before .before .before .before .before .before .before .args .i) (c .before .before .before .before .before .before .before .before .before .before .before .before .before .before .before .args .j)) (c .before .before .before .before .before .before .before .lowest-name .ensures)) (c .before .before .before .before .before .before .before .before .before .before .before .before .before .before .before .pre .0) (c .before .before .before .before .enum-told2 .given .1)
+    member-kept (c .before .before .before .before .before .before .before .before .before .before .before .before .before .before .before .args .text .now) (c .before .before .before .before .before .before .before .before .before .before .before .before .before .before .before .args .i) (c .before .before .before .before .before .before .before .before .before .before .before .before .before .before .before .args .j) (c .before .before .before .before .before .before .before .before .before .before .before .before .before .before .before .args .at) (c .before .before .before .before .before .before .before .before .before .before .before .before .before .before .before .args .line) (c .before .before .before .before .before .before .before .before .before .before .before .before .before .before .before .args .work .now) _ _ _ (sym (c .before .before .before .before .before .before .before .before .before .before .before .before .read-line .ensures) ∙ c .before .before .before .before .before .before .before .before .before .before .place .given .1) (c .before .before .before .before .before .before .member-line .result) (c .before .before .before .before .before .before .member-line .ensures .0 (rowsIn (c .before .before .before .before .before .before .before .before .before .before .before .before .before .before .before .args .work .now) (c .before .before .before .before .before .before .before .before .before .before .before .before .before .before .before .args .i)) (headingIn (c .before .before .before .before .before .before .before .before .before .before .before .before .before .before .before .args .work .now) (c .before .before .before .before .before .before .before .before .before .before .before .before .before .before .before .args .i)) (membersIn (c .before .before .before .before .before .before .before .before .before .before .before .before .before .before .before .args .work .now) (c .before .before .before .before .before .before .before .before .before .before .before .before .before .before .before .args .i) (c .before .before .before .before .before .before .before .before .before .before .before .before .before .before .before .args .j)) (c .before .before .before .before .before .before .before .lowest-name .ensures)) (c .before .before .before .before .before .before .before .before .before .before .before .before .before .before .before .pre .0) (c .before .before .before .before .enum-told2 .given .1)
     (c .before .before .keep-member .last .0) (c .before .before .keep-member .result) (c .before .before .keep-member .ensures)
 
 -- src/lib.rt:42:1
@@ -65,14 +68,14 @@ same-length-2 c = search needs
 -- src/lib.rt:42:1
 returns-3 : tie.Need-returns-3
 returns-3 c =
-    member-refused (c .before .before .before .before .before .before .before .before .before .before .before .before .args .text .now) (c .before .before .before .before .before .before .before .before .before .before .before .before .args .i) (c .before .before .before .before .before .before .before .before .before .before .before .before .args .j) (c .before .before .before .before .before .before .before .before .before .before .before .before .args .at) (c .before .before .before .before .before .before .before .before .before .before .before .before .args .line) (c .before .before .before .before .before .before .before .before .before .before .before .before .args .work .now) _ _ _ (sym (c .before .before .before .before .before .before .before .before .before .read-line .ensures) ∙ c .before .before .before .before .before .before .before .key .given .1) (c .before .before .before .member-line .result) (c .before .before .before .member-line .ensures .0 (rowsIn (c .before .before .before .before .before .before .before .before .before .before .before .before .args .work .now) (c .before .before .before .before .before .before .before .before .before .before .before .before .args .i)) (headingIn (c .before .before .before .before .before .before .before .before .before .before .before .before .args .work .now) (c .before .before .before .before .before .before .before .before .before .before .before .before .args .i)) (membersIn (c .before .before .before .before .before .before .before .before .before .before .before .before .args .work .now) (c .before .before .before .before .before .before .before .before .before .before .before .before .args .i) (c .before .before .before .before .before .before .before .before .before .before .before .before .args .j)) (c .before .before .before .before .lowest-name .ensures)) _ (c .before .reason .given .1)
+    member-refused (c .before .before .before .before .before .before .before .before .before .before .before .before .args .text .now) (c .before .before .before .before .before .before .before .before .before .before .before .before .args .i) (c .before .before .before .before .before .before .before .before .before .before .before .before .args .j) (c .before .before .before .before .before .before .before .before .before .before .before .before .args .at) (c .before .before .before .before .before .before .before .before .before .before .before .before .args .line) (c .before .before .before .before .before .before .before .before .before .before .before .before .args .work .now) _ _ _ (sym (c .before .before .before .before .before .before .before .before .before .read-line .ensures) ∙ c .before .before .before .before .before .before .before .place .given .1) (c .before .before .before .member-line .result) (c .before .before .before .member-line .ensures .0 (rowsIn (c .before .before .before .before .before .before .before .before .before .before .before .before .args .work .now) (c .before .before .before .before .before .before .before .before .before .before .before .before .args .i)) (headingIn (c .before .before .before .before .before .before .before .before .before .before .before .before .args .work .now) (c .before .before .before .before .before .before .before .before .before .before .before .before .args .i)) (membersIn (c .before .before .before .before .before .before .before .before .before .before .before .before .args .work .now) (c .before .before .before .before .before .before .before .before .before .before .before .before .args .i) (c .before .before .before .before .before .before .before .before .before .before .before .before .args .j)) (c .before .before .before .before .lowest-name .ensures)) _ (c .before .reason .given .1)
 
 pub read-member-spec : {M : Type 1} → statement M
 read-member-spec =
     tie.close
     (tie.spec
     read-line-requires
-    enum-known-key
+    enum-known-place
     enum-told
     returns
     lowest-name-requires
