@@ -1,20 +1,19 @@
 -- Reading a form after its heading: the heading stored, its kept rows read, then its parts. Assumes nothing.
 use Prim.Native.Nat.{ℕ, _+_, _≤_, _<_}
 use native.Mathlib.Omega.{arith}
-use mathlib.Core.Path.{_≡_, refl, sym, ap, ap₂, _∙_, subst}
+use mathlib.Core.Path.{_≡_, refl, sym, ap, _∙_, subst}
 use mathlib.Core.List.{List, []}
 use lib.ListN.{length, drop}
 use Rattle.lists.proofs.TabLaws.{tab-ext, length-tab, getD-tab}
 use Rattle.sheet_rules.specs.declared.Place.{Place}
 use Rattle.sheet_rules.specs.declared.Member.{Member}
 use Rattle.sheet_rules.specs.declared.Reason.{Reason}
-use Rattle.sheet_rules.specs.Lines.{Line, linesOf}
+use Rattle.sheet_rules.specs.Lines.{linesOf}
 use Rattle.sheet_rules.specs.Sheet.{Row, Part, Form, noRow, rowAt, sizeOfParts}
-use Rattle.sheet_rules.specs.Reader.{Read, refused, Reader, andThen, give, one, many, existingLine}
-use Rattle.table.specs.Layout.{rowAddress, formAddress, keepAddress, partAddress, tableEnd, workSize}
-use Rattle.table.specs.View.{cell, rowIn, rowsIn, keepsIn, partIn, partsIn, formIn}
-use Rattle.table.specs.Only.{Only}
-use Rattle.table.specs.Pool.{OnlyFrom, FormEnds}
+use Rattle.sheet_rules.specs.Reader.{Read, andThen, give, one, many, existingLine}
+use Rattle.table.specs.Layout.{rowAddress, formAddress, keepAddress, partAddress}
+use Rattle.table.specs.View.{cell, rowIn, rowsIn, keepsIn, partsIn, formIn}
+use Rattle.table.specs.Pool.{OnlyFrom}
 use Rattle.table.specs.Ready.{Ready}
 use Rattle.table.specs.Stores.{headingPut}
 use Rattle.table.proofs.RowLaws.{members-length}
@@ -26,7 +25,7 @@ use Rattle.read_loop.proofs.LoopLaws.{advanced-later, advanced-room}
 use Rattle.read_loop.proofs.ThenLaws.{moved-then, moved-stop, advanced-sooner}
 use Rattle.keep_reader.specs.Reads.{KeepsRead}
 use Rattle.part_reader.specs.declared.PoolProgress.{PoolProgress}
-use Rattle.part_reader.specs.Reads.{plain}
+use Rattle.part_reader.specs.Reads.{pooled, plain}
 use Rattle.form_reader.specs.Reads.{PartsReady, partItem, PartsUsed, PartsRead, FormUsed, FormRead, partsRest, formRest}
 use Rattle.part_reader.proofs.PartLaws.{not-moved}
 
@@ -66,11 +65,13 @@ module _ (text : List ℕ) (f row keeps rows forms used at n : ℕ) (w : List �
   keeps-told : readTold text r (keepsIn w₂ f keeps) ≡ many keeps (λ before. one (existingLine Place.Keep (length (rowsIn w rows)))) [] (linesOf (drop at text)) n
   keeps-told = k .told ∙ ap (λ (m : ℕ). many keeps (λ before. one (existingLine Place.Keep m)) [] (linesOf (drop at text)) n) (sym rows-length)
 
-  pub keeps-refused : (q : Reason) (l : ℕ) → r ≡ Progress.Refused q l
-      → FormRead text f used (formRest (rowsIn w rows) forms used (record { row = row; count = keeps })) at n w w₂ (PoolProgress.Refused q l)
+  pub keeps-refused : (q : Reason) (l : ℕ) → r ≡ Progress.Refused q l → (p : PoolProgress) → p ≡ pooled r used
+      → FormRead text f used (formRest (rowsIn w rows) forms used (record { row = row; count = keeps })) at n w w₂ p
   unfolding formRest
-  keeps-refused q l e =
-      record {
+  keeps-refused q l e p c =
+      subst (FormRead text f used (formRest (rowsIn w rows) forms used (record { row = row; count = keeps })) at n w w₂)
+      (sym (c ∙ ap (λ (x : Progress). pooled x used) e))
+      (record {
         read =
             record {
               told = sym (moved-stop text _ (partsRest ((rowAt (rowsIn w rows) row) .members) row forms used) r (keepsIn w₂ f keeps) keeps-told q l e);
@@ -79,7 +80,7 @@ module _ (text : List ℕ) (f row keeps rows forms used at n : ℕ) (w : List �
             };
         from = keeps-from;
         used-then = λ a m u c. not-moved q l a m u c;
-      }
+      })
 
   -- what reading the parts asks for
   pub parts-ready : (row₂ : ℕ) → row₂ ≡ row → PartsReady w₂ f row₂ parts keeps used

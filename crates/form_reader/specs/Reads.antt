@@ -9,7 +9,7 @@ use Rattle.sheet_rules.specs.Sheet.{Row, Part, Form, noMember, rowAt, sizeOfPar
 use Rattle.sheet_rules.specs.Reader.{Reader, _>>=_, give, one, many, existingLine}
 use Rattle.sheet_rules.specs.FormLines.{FormHeading, formLine, readPart, readForm}
 use Rattle.table.specs.Layout.{rowAddress, formAddress, partAddress, tableEnd, workSize}
-use Rattle.table.specs.View.{cell, rowIn, rowsIn, partIn, partsIn, formIn, formsIn}
+use Rattle.table.specs.View.{cell, rowsIn, partIn, partsIn, formIn, formsIn}
 use Rattle.table.specs.Pool.{OnlyFrom, PartsEnd, FormEnds}
 use Rattle.read_loop.specs.Items.{ItemRead, ItemsRead}
 use Rattle.part_reader.specs.declared.PoolProgress.{PoolProgress}

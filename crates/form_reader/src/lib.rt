@@ -5,8 +5,9 @@ ghost use Rattle.line_reader.specs.Told.{Room};
 ghost use Rattle.table.specs.Ready.{Ready};
 ghost use Rattle.table.specs.View.{rowIn, rowsIn};
 ghost use Rattle.form_reader.specs.Reads.{PartsReady, partItem, PartsRead, formRest, formReader, FormRead, FormsRead};
-use line_reader::PairLine;
+use line_reader::LineTaken;
 use line_reader::Progress;
+use line_reader::Wanted;
 use part_reader::PoolProgress;
 use table::rows::wide;
 
@@ -69,21 +70,11 @@ fn keep_form(
 {
     let parts = table::rows::member_count(work, wide(row));
     table::stores::put_heading(work, f, row, keeps, parts as u16);
-    match keep_reader::read_keeps(text, work, f, wide(keeps), rows, at, line) {
-        Progress::Moved { at: next, line: n } => read_parts(
-            text,
-            work,
-            f,
-            wide(row),
-            parts,
-            forms,
-            keeps,
-            used,
-            next,
-            n,
-        ),
-        Progress::Refused { reason, line: n } => PoolProgress::Refused { reason, line: n },
-    }
+    let kept = keep_reader::read_keeps(text, work, f, wide(keeps), rows, at, line);
+    let Progress::Moved { at: next, line: n } = kept else {
+        return part_reader::pool_progress(kept, used);
+    };
+    read_parts(text, work, f, wide(row), parts, forms, keeps, used, next, n)
 }
 
 // Form f, read from a place of the text, in a sheet of so many rows and forms, after so many instructions.
@@ -100,15 +91,19 @@ fn read_form(
     requires { ⌜ Room (now text) at line × (f < 64) × (used ≤ 1024) × Ready rows (now work) ⌝ }
     ensures { λ r. ⌜ FormRead (now (text .entry)) f used (formReader (rowsIn (now (work .entry)) rows) forms used) at line (now (work .entry)) (now (work .exit)) r ⌝ }
 {
-    match line_reader::read_form_head(text, at, line, rows) {
-        PairLine::Pair {
-            first,
-            second,
-            at: next,
-            line: n,
-        } => keep_form(text, work, f, first, second, rows, forms, used, next, n),
-        PairLine::Refused { reason, line: n } => PoolProgress::Refused { reason, line: n },
-    }
+    let read = line_reader::take_line(text, at, line, Wanted::Form { rows });
+    let LineTaken::Line {
+        place: _,
+        numbers,
+        at: next,
+        line: n,
+    } = read
+    else {
+        return part_reader::pool_progress(line_reader::stopped(read), used);
+    };
+    let row = numbers.n0;
+    let keeps = numbers.n1;
+    keep_form(text, work, f, row, keeps, rows, forms, used, next, n)
 }
 
 // The forms of a sheet of so many rows, as many as its `forms` line says, from a place of the text.

@@ -6,12 +6,11 @@ ghost use Rattle.table.specs.Layout.{workSize};
 ghost use Rattle.table.specs.View.{operationCode, instrFrom};
 ghost use Rattle.line_reader.specs.Told.{Room};
 ghost use Rattle.instr_reader.specs.Reads.{firstSix, lastFive, nineOf, StoredInstr, InstrRead, InstrsRead};
-use judges::LineJudged;
-use lexer::LineRead;
 use lexer::Numbers;
+use line_reader::LineTaken;
 use line_reader::Progress;
+use line_reader::Wanted;
 use sheet_rules::Operation;
-use sheet_rules::Reason;
 use table::stores::put_number;
 use table::stores::put_operation;
 
@@ -61,28 +60,19 @@ fn read_instr(
     requires { ⌜ Room (now text) at line × (p < 1024) × (workSize ≤ length (now work)) ⌝ }
     ensures { λ r. ⌜ InstrRead (now (text .entry)) p forms filled at line (now (work .entry)) (now (work .exit)) r ⌝ }
 {
-    let LineRead::Line {
+    let read = line_reader::take_line(text, at, line, Wanted::Instruction { forms, filled });
+    let LineTaken::Line {
         place,
         numbers,
-        next,
-    } = lexer::read_line(text, at)
+        at: next,
+        line: n,
+    } = read
     else {
-        return Progress::Refused {
-            reason: Reason::Malformed,
-            line,
-        };
+        return line_reader::stopped(read);
     };
-    match instr_judge::instr_line(forms, filled, place, numbers) {
-        LineJudged::Good => {
-            let operation = instr_judge::operation_of(place);
-            store_instr(work, p, operation, numbers);
-            Progress::Moved {
-                at: next,
-                line: line + 1,
-            }
-        }
-        LineJudged::Refused { reason } => Progress::Refused { reason, line },
-    }
+    let operation = instr_judge::operation_of(place);
+    store_instr(work, p, operation, numbers);
+    Progress::Moved { at: next, line: n }
 }
 
 // A body's instructions, from a place of the pool on. The first has so many slots filled, and each fills one more.

@@ -14,7 +14,6 @@ use Rattle.sheet_rules.specs.RowLines.{rowLine}
 use Rattle.sheet_rules.specs.FormLines.{formLine, bodyLine}
 use Rattle.lexer.specs.declared.Numbers.{Numbers}
 use Rattle.lexer.specs.Scan.{listOf, Fitting}
-use Rattle.judges.specs.declared.PairJudged.{PairJudged}
 use Rattle.judges.specs.Told.{rowTold, formTold}
 use Rattle.judges.proofs.JudgeLaws.{stands-place, number-first, number-second, two-of-row, two-of-form, demand-no, demand-yes}
 
@@ -93,13 +92,13 @@ module _ (k : Place) (ns : Numbers) (h : Fitting k ns) where
     row-malformed e = sym (demand-no _ _ _ (stands-place Place.Row k ns h ∙ e))
 
     row-kept : samePlace k Place.Row ≡ true
-        → rowLine earlier k (listOf ns) ≡ demand (leb (ns .n0) 1 && leb (ns .n1) 8) OutOfLimit (rowTold earlier (PairJudged.Pair (ns .n0) (ns .n1)))
+        → rowLine earlier k (listOf ns) ≡ demand (leb (ns .n0) 1 && leb (ns .n1) 8) OutOfLimit (rowTold earlier (ns .n0) (ns .n1))
     unfolding rowLine
     row-kept e =
         demand-yes _ _ _ (stands-place Place.Row k ns h ∙ e)
-        ∙ ap (λ (a : ℕ). demand (leb a 1 && leb (nth (listOf ns) 1) 8) OutOfLimit (rowTold earlier (PairJudged.Pair a (nth (listOf ns) 1))))
+        ∙ ap (λ (a : ℕ). demand (leb a 1 && leb (nth (listOf ns) 1) 8) OutOfLimit (rowTold earlier a (nth (listOf ns) 1)))
         (number-first k ns h)
-        ∙ ap (λ (m : ℕ). demand (leb (ns .n0) 1 && leb m 8) OutOfLimit (rowTold earlier (PairJudged.Pair (ns .n0) m)))
+        ∙ ap (λ (m : ℕ). demand (leb (ns .n0) 1 && leb m 8) OutOfLimit (rowTold earlier (ns .n0) m))
         (number-second k ns h (two-of-row k (subst T (sym e) tt)))
 
     pub row-kind : samePlace k Place.Row ≡ true → 1 < ns .n0 → bad OutOfLimit ≡ rowLine earlier k (listOf ns)
@@ -109,7 +108,7 @@ module _ (k : Place) (ns : Numbers) (h : Fitting k ns) where
     row-members e f g = sym (row-kept e ∙ demand-no _ _ _ (simp (le-leb (ns .n0) 1 f, lt-leb (ns .n1) 8 g)))
 
     pub row-good : samePlace k Place.Row ≡ true → ns .n0 ≤ 1 → ns .n1 ≤ 8
-        → rowTold earlier (PairJudged.Pair (ns .n0) (ns .n1)) ≡ rowLine earlier k (listOf ns)
+        → rowTold earlier (ns .n0) (ns .n1) ≡ rowLine earlier k (listOf ns)
     row-good e f g = sym (row-kept e ∙ demand-yes _ _ _ (simp (le-leb (ns .n0) 1 f, le-leb (ns .n1) 8 g)))
 
   -- a form's heading
@@ -120,13 +119,13 @@ module _ (k : Place) (ns : Numbers) (h : Fitting k ns) where
 
     form-kept : samePlace k Place.Form ≡ true
         → formLine rows k (listOf ns)
-        ≡ demand (leb (ns .n1) 8) OutOfLimit (demand (ltb (ns .n0) rows) NotDefined (formTold (PairJudged.Pair (ns .n0) (ns .n1))))
+        ≡ demand (leb (ns .n1) 8) OutOfLimit (demand (ltb (ns .n0) rows) NotDefined (formTold (ns .n0) (ns .n1)))
     unfolding formLine
     form-kept e =
         demand-yes _ _ _ (stands-place Place.Form k ns h ∙ e)
-        ∙ ap (λ (a : ℕ). demand (leb (nth (listOf ns) 1) 8) OutOfLimit (demand (ltb a rows) NotDefined (formTold (PairJudged.Pair a (nth (listOf ns) 1)))))
+        ∙ ap (λ (a : ℕ). demand (leb (nth (listOf ns) 1) 8) OutOfLimit (demand (ltb a rows) NotDefined (formTold a (nth (listOf ns) 1))))
         (number-first k ns h)
-        ∙ ap (λ (m : ℕ). demand (leb m 8) OutOfLimit (demand (ltb (ns .n0) rows) NotDefined (formTold (PairJudged.Pair (ns .n0) m))))
+        ∙ ap (λ (m : ℕ). demand (leb m 8) OutOfLimit (demand (ltb (ns .n0) rows) NotDefined (formTold (ns .n0) m)))
         (number-second k ns h (two-of-form k (subst T (sym e) tt)))
 
     pub form-keeps : samePlace k Place.Form ≡ true → 8 < ns .n1 → bad OutOfLimit ≡ formLine rows k (listOf ns)
@@ -136,5 +135,5 @@ module _ (k : Place) (ns : Numbers) (h : Fitting k ns) where
     form-not e f g = sym (form-kept e ∙ demand-yes _ _ _ (le-leb (ns .n1) 8 f) ∙ demand-no _ _ _ (le-ltb (ns .n0) rows g))
 
     pub form-good : samePlace k Place.Form ≡ true → ns .n1 ≤ 8 → ns .n0 < rows
-        → formTold (PairJudged.Pair (ns .n0) (ns .n1)) ≡ formLine rows k (listOf ns)
+        → formTold (ns .n0) (ns .n1) ≡ formLine rows k (listOf ns)
     form-good e f g = sym (form-kept e ∙ demand-yes _ _ _ (le-leb (ns .n1) 8 f) ∙ demand-yes _ _ _ (lt-ltb (ns .n0) rows g))

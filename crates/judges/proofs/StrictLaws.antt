@@ -12,7 +12,7 @@ use Rattle.sheet_rules.specs.declared.Place.{Place}
 use Rattle.sheet_rules.specs.declared.Reason.the-variants.{Malformed}
 use Rattle.sheet_rules.specs.Keys.{samePlace, stands}
 use Rattle.sheet_rules.specs.Lines.{Line, line, torn, linesOf}
-use Rattle.sheet_rules.specs.Sheet.{Row as RowRule}
+use Rattle.sheet_rules.specs.Sheet.{Row}
 use Rattle.sheet_rules.specs.Reader.{Judged, bad, refused, settle, one, countLine, existingLine}
 use Rattle.sheet_rules.specs.RowLines.{Heading, rowLine, memberLine}
 use Rattle.sheet_rules.specs.FormLines.{formLine, bodyLine, instrLine}
@@ -47,7 +47,7 @@ pub strict-body : (w : Place) (used : ℕ) → Strict (bodyLine w used)
 unfolding bodyLine
 strict-body w used k ns h = demand-no _ _ _ (stands-unfit w k ns h)
 
-pub strict-row : (earlier : List RowRule) → Strict (rowLine earlier)
+pub strict-row : (earlier : List Row) → Strict (rowLine earlier)
 unfolding rowLine
 strict-row earlier k ns h = demand-no _ _ _ (stands-unfit Place.Row k ns h)
 
@@ -55,7 +55,7 @@ pub strict-form : (rows : ℕ) → Strict (formLine rows)
 unfolding formLine
 strict-form rows k ns h = demand-no _ _ _ (stands-unfit Place.Form k ns h)
 
-pub strict-member : (earlier : List RowRule) (h : Heading) (before : List Member) → Strict (memberLine earlier h before)
+pub strict-member : (earlier : List Row) (h : Heading) (before : List Member) → Strict (memberLine earlier h before)
 unfolding memberLine
 strict-member earlier h before k ns p = demand-no _ _ _ (stands-unfit (Place.Member MemberKind.Method) k ns p)
 

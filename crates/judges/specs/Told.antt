@@ -1,5 +1,5 @@
 -- What the code's answers tell, in the rules' words. Stands on the rules' judgements.
-use Prim.Native.Nat.{ℕ, suc, _≤_}
+use Prim.Native.Nat.{ℕ, suc}
 use mathlib.Core.Path.{_≡_}
 use mathlib.Core.Bool.{true, not, _&&_}
 use mathlib.Core.List.{List, [], _∷_, _++_}
@@ -11,42 +11,27 @@ use Rattle.sheet_rules.specs.declared.Member.{Member}
 use Rattle.sheet_rules.specs.Keys.{samePlace, memberKind}
 use Rattle.lexer.specs.declared.Numbers.{Numbers}
 use Rattle.lexer.specs.Scan.{Fitting}
-use Rattle.sheet_rules.specs.declared.Reason.{Reason}
 use Rattle.sheet_rules.specs.declared.Reason.the-variants.{DuplicateRow, NotDefined}
 use Rattle.sheet_rules.specs.Sheet.{Row}
 use Rattle.sheet_rules.specs.Reader.{Judged, good, bad, demand}
 use Rattle.sheet_rules.specs.RowLines.{Heading, kindOf, twin, ascends, memberOf, mentionsBelow}
 use Rattle.sheet_rules.specs.FormLines.{FormHeading}
-use Rattle.judges.specs.declared.NumberJudged.{NumberJudged}
-use Rattle.judges.specs.declared.PairJudged.{PairJudged}
 use Rattle.judges.specs.declared.LineJudged.{LineJudged}
 
--- a line with one number, judged
-abbrev pub numberTold : NumberJudged → Judged ℕ
-numberTold (NumberJudged.Number v) = good v
-numberTold (NumberJudged.Refused r) = bad r
-
--- a `type` line, judged but for its twin, which is asked of a row without members
-abbrev pub rowTold : List Row → PairJudged → Judged Heading
-rowTold earlier (PairJudged.Pair k m) =
-    demand (not (eqb m 0 && twin earlier (record { kind = kindOf k; members = [] }))) DuplicateRow
-    (good (record { kind = kindOf k; count = m }))
-rowTold earlier (PairJudged.Refused r) = bad r
-
--- a `form` line, judged
-abbrev pub formTold : PairJudged → Judged FormHeading
-formTold (PairJudged.Pair a c) = good (record { row = a; count = c })
-formTold (PairJudged.Refused r) = bad r
-
--- the second number of a heading, members or kept values, is at most 8
-pub data AtMost8 : PairJudged → Type 0 where
-  at-most : {a b : ℕ} → b ≤ 8 → AtMost8 (PairJudged.Pair a b)
-  none-there : {r : Reason} → AtMost8 (PairJudged.Refused r)
-
--- a line whose numbers are kept, judged: what is then made of them, or the refusal
+-- a line, judged: what is then made of its numbers, or the refusal
 abbrev pub lineTold : {A : Type 0} → LineJudged → Judged A → Judged A
 lineTold LineJudged.Good x = x
 lineTold (LineJudged.Refused r) x = bad r
+
+-- what a `type` line's numbers make, but for its twin, which is asked of a row without members
+abbrev pub rowTold : List Row → ℕ → ℕ → Judged Heading
+rowTold earlier k m =
+    demand (not (eqb m 0 && twin earlier (record { kind = kindOf k; members = [] }))) DuplicateRow
+    (good (record { kind = kindOf k; count = m }))
+
+-- what a `form` line's numbers make
+abbrev pub formTold : ℕ → ℕ → Judged FormHeading
+formTold a c = good (record { row = a; count = c })
 
 -- a member's line, as the lexer gives it
 pub record MemberShaped (k : Place) (ns : Numbers) : Type 0 where

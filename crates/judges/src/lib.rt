@@ -2,7 +2,7 @@
 ghost use mathlib.Core.Path.{_≡_};
 ghost use Prim.Native.Nat.{_≤_, _<_, _+_};
 ghost use Rattle.sheet_rules.specs.Keys.{placeNumber, samePlace, memberKind};
-ghost use Rattle.sheet_rules.specs.Reader.{countLine, existingLine};
+ghost use Rattle.sheet_rules.specs.Reader.{good, countLine, existingLine};
 ghost use mathlib.Core.List.{List};
 ghost use Rattle.sheet_rules.specs.Sheet.{Row as RowRule};
 ghost use mathlib.Core.Bool.{true};
@@ -12,25 +12,13 @@ ghost use Rattle.sheet_rules.specs.declared.Place.{Place as PlaceRule};
 ghost use Rattle.sheet_rules.specs.RowLines.{Heading, rowLine, memberLine};
 ghost use Rattle.sheet_rules.specs.FormLines.{formLine, bodyLine};
 ghost use Rattle.lexer.specs.Scan.{listOf, Fitting};
-ghost use Rattle.judges.specs.Told.{numberTold, rowTold, formTold, AtMost8, lineTold, Lowest, memberRest};
+ghost use Rattle.judges.specs.Told.{lineTold, rowTold, formTold, Lowest, memberRest};
 use lexer::Numbers;
 use sheet_rules::MemberKind;
 use sheet_rules::Place;
 use sheet_rules::Reason;
 
-// A line with one number, judged.
-pub enum NumberJudged {
-    Number { value: u16 },
-    Refused { reason: Reason },
-}
-
-// A line with two numbers, judged.
-pub enum PairJudged {
-    Pair { first: u16, second: u16 },
-    Refused { reason: Reason },
-}
-
-// A line whose numbers are kept as they are, judged.
+// A line, judged by its place and numbers.
 pub enum LineJudged {
     Good,
     Refused { reason: Reason },
@@ -73,136 +61,131 @@ pub fn member_kind(place: Place) -> MemberKind
 }
 
 // `types=T` and `forms=F`: a count within its limits.
-pub fn count_line(
-    wanted: Place,
-    low: u16,
-    high: u16,
-    place: Place,
-    numbers: Numbers,
-) -> NumberJudged
+pub fn count_line(wanted: Place, low: u16, high: u16, place: Place, numbers: Numbers) -> LineJudged
     requires { ⌜ Fitting place numbers ⌝ }
-    ensures { λ r. ⌜ numberTold r ≡ countLine wanted low high place (listOf numbers) ⌝ }
+    ensures { λ r. ⌜ lineTold r (good (numbers .n0)) ≡ countLine wanted low high place (listOf numbers) ⌝ }
 {
     let here = same_place(place, wanted);
     if !here {
-        return NumberJudged::Refused {
+        return LineJudged::Refused {
             reason: Reason::Malformed,
         };
     }
     let value = numbers.n0;
     if value < low {
-        return NumberJudged::Refused {
+        return LineJudged::Refused {
             reason: Reason::OutOfLimit,
         };
     }
     if high < value {
-        return NumberJudged::Refused {
+        return LineJudged::Refused {
             reason: Reason::OutOfLimit,
         };
     }
-    NumberJudged::Number { value }
+    LineJudged::Good
 }
 
 // `keep=T` and `init=k`: the number of something that is there.
-pub fn existing_line(wanted: Place, there: u16, place: Place, numbers: Numbers) -> NumberJudged
+pub fn existing_line(wanted: Place, there: u16, place: Place, numbers: Numbers) -> LineJudged
     requires { ⌜ Fitting place numbers ⌝ }
-    ensures { λ r. ⌜ numberTold r ≡ existingLine wanted there place (listOf numbers) ⌝ }
+    ensures { λ r. ⌜ lineTold r (good (numbers .n0)) ≡ existingLine wanted there place (listOf numbers) ⌝ }
 {
     let here = same_place(place, wanted);
     if !here {
-        return NumberJudged::Refused {
+        return LineJudged::Refused {
             reason: Reason::Malformed,
         };
     }
     let value = numbers.n0;
     if there <= value {
-        return NumberJudged::Refused {
+        return LineJudged::Refused {
             reason: Reason::NotDefined,
         };
     }
-    NumberJudged::Number { value }
+    LineJudged::Good
 }
 
 // `body=I` and `main=I`, after so many instructions of the sheet.
-pub fn body_line(wanted: Place, used: u16, place: Place, numbers: Numbers) -> NumberJudged
+pub fn body_line(wanted: Place, used: u16, place: Place, numbers: Numbers) -> LineJudged
     requires { ⌜ Fitting place numbers ⌝ }
-    ensures { λ r. ⌜ numberTold r ≡ bodyLine wanted used place (listOf numbers) ⌝ }
+    ensures { λ r. ⌜ lineTold r (good (numbers .n0)) ≡ bodyLine wanted used place (listOf numbers) ⌝ }
 {
     let here = same_place(place, wanted);
     if !here {
-        return NumberJudged::Refused {
+        return LineJudged::Refused {
             reason: Reason::Malformed,
         };
     }
     let value = numbers.n0;
     if value < 1 {
-        return NumberJudged::Refused {
+        return LineJudged::Refused {
             reason: Reason::OutOfLimit,
         };
     }
     if 32 < value {
-        return NumberJudged::Refused {
+        return LineJudged::Refused {
             reason: Reason::OutOfLimit,
         };
     }
     if 1024 < (used as u32) + (value as u32) {
-        return NumberJudged::Refused {
+        return LineJudged::Refused {
             reason: Reason::OutOfLimit,
         };
     }
-    NumberJudged::Number { value }
+    LineJudged::Good
 }
 
 // `type=K,M`, but for the test whether the row has a twin.
-pub fn row_line(place: Place, numbers: Numbers) -> PairJudged
+pub fn row_line(place: Place, numbers: Numbers) -> LineJudged
     requires { ⌜ Fitting place numbers ⌝ }
-    ensures { λ r. ⌜ ((earlier : List RowRule) → rowTold earlier r ≡ rowLine earlier place (listOf numbers)) × AtMost8 r ⌝ }
+    ensures { λ r. ⌜ ((earlier : List RowRule) → lineTold r (rowTold earlier (numbers .n0) (numbers .n1)) ≡ rowLine earlier place (listOf numbers)) ⌝ }
+    ensures few { λ r. ⌜ (r ≡ LineJudged.Good → numbers .n1 ≤ 8) ⌝ }
 {
     let here = same_place(place, Place::Row);
     if !here {
-        return PairJudged::Refused {
+        return LineJudged::Refused {
             reason: Reason::Malformed,
         };
     }
     let first = numbers.n0;
     let second = numbers.n1;
     if 1 < first {
-        return PairJudged::Refused {
+        return LineJudged::Refused {
             reason: Reason::OutOfLimit,
         };
     }
     if 8 < second {
-        return PairJudged::Refused {
+        return LineJudged::Refused {
             reason: Reason::OutOfLimit,
         };
     }
-    PairJudged::Pair { first, second }
+    LineJudged::Good
 }
 
 // `form=T,C`, in a sheet of so many rows.
-pub fn form_line(rows: u16, place: Place, numbers: Numbers) -> PairJudged
+pub fn form_line(rows: u16, place: Place, numbers: Numbers) -> LineJudged
     requires { ⌜ Fitting place numbers ⌝ }
-    ensures { λ r. ⌜ (formTold r ≡ formLine rows place (listOf numbers)) × AtMost8 r ⌝ }
+    ensures { λ r. ⌜ lineTold r (formTold (numbers .n0) (numbers .n1)) ≡ formLine rows place (listOf numbers) ⌝ }
 {
     let here = same_place(place, Place::Form);
     if !here {
-        return PairJudged::Refused {
+        return LineJudged::Refused {
             reason: Reason::Malformed,
         };
     }
     let first = numbers.n0;
     let second = numbers.n1;
     if 8 < second {
-        return PairJudged::Refused {
+        return LineJudged::Refused {
             reason: Reason::OutOfLimit,
         };
     }
     if rows <= first {
-        return PairJudged::Refused {
+        return LineJudged::Refused {
             reason: Reason::NotDefined,
         };
     }
-    PairJudged::Pair { first, second }
+    LineJudged::Good
 }
 
 // A member line, where the least name that ascends is given: but for the tests of the whole row.

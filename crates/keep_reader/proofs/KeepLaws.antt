@@ -1,5 +1,5 @@
 -- Reading one kept row: a law for each exit. Assumes nothing.
-use Prim.Native.Nat.{ℕ, _+_, _*_, _≤_, _<_}
+use Prim.Native.Nat.{ℕ, _+_, _≤_}
 use native.Mathlib.Omega.{arith}
 use mathlib.Core.Path.{_≡_, sym, ap, _∙_, subst}
 use mathlib.Core.List.{List}
@@ -8,36 +8,38 @@ use lib.Seq.{getD-set-same}
 use Rattle.sheet_rules.specs.declared.Place.{Place}
 use Rattle.sheet_rules.specs.declared.Reason.{Reason}
 use Rattle.sheet_rules.specs.Lines.{linesOf}
-use Rattle.sheet_rules.specs.Reader.{got, one, existingLine}
+use Rattle.sheet_rules.specs.Reader.{got}
 use Rattle.table.specs.Layout.{keepAddress, workSize}
 use Rattle.table.proofs.ViewLaws.{only-refl, only-set}
-use Rattle.line_reader.specs.declared.NumberLine.{NumberLine}
+use Rattle.lexer.specs.declared.Numbers.{Numbers}
+use Rattle.line_reader.specs.declared.LineTaken.{LineTaken}
+use Rattle.line_reader.specs.declared.Wanted.{Wanted}
 use Rattle.line_reader.specs.declared.Progress.{Progress}
-use Rattle.line_reader.specs.Told.{numberRead, Onward, Advanced}
+use Rattle.line_reader.specs.Told.{number, lineRead, LineTold, stoppedBy, Advanced}
+use Rattle.read_loop.proofs.ThenLaws.{past, past-room}
 use Rattle.keep_reader.specs.Reads.{KeepRead}
 
 -- by what the line's reader gave
-module _ (text : List ℕ) (f j rows at n : ℕ) (w : List ℕ) (p : NumberLine)
-    (told : numberRead text p ≡ one (existingLine Place.Keep rows) (linesOf (drop at text)) n) where
-  pub keep-read : workSize ≤ length w → (v at′ n′ : ℕ) → p ≡ NumberLine.Number v at′ n′ → Onward text at n p
-      → (w′ : List ℕ) → w′ ≡ set w (keepAddress f j) v → KeepRead text f j rows at n w w′ (Progress.Moved at′ n′)
-  keep-read size v at′ n′ e o w′ stored =
+module _ (text : List ℕ) (f j rows at n : ℕ) (w : List ℕ) (p : LineTaken) (told : LineTold (Wanted.Keep rows) text at n p) where
+  pub keep-read : workSize ≤ length w → (k : Place) (ns : Numbers) (at′ n′ : ℕ) → p ≡ LineTaken.Line k ns at′ n′
+      → (w′ : List ℕ) → w′ ≡ set w (keepAddress f j) (ns .n0) → KeepRead text f j rows at n w w′ (Progress.Moved at′ n′)
+  keep-read size k ns at′ n′ e w′ stored =
       subst (λ (x : List ℕ). KeepRead text f j rows at n w x (Progress.Moved at′ n′)) (sym stored)
       (record {
         told =
-            ap (λ (x : ℕ). got x (linesOf (drop at′ text)) n′) (getD-set-same w (keepAddress f j) v 0 (omega arith))
-            ∙ sym (ap (numberRead text) e) ∙ told;
-        only = only-set (keepAddress f j) (keepAddress f j + 1) w (keepAddress f j) v (omega arith) (omega arith);
-        advanced = onward v at′ n′ (subst (Onward text at n) e o);
+            ap (λ (x : ℕ). got x (linesOf (drop at′ text)) n′) (getD-set-same w (keepAddress f j) (ns .n0) 0 (omega arith))
+            ∙ sym (ap (lineRead text number) e) ∙ told .told;
+        only = only-set (keepAddress f j) (keepAddress f j + 1) w (keepAddress f j) (ns .n0) (omega arith) (omega arith);
+        advanced =
+            (let z : at ≤ at′ = omega (arith, (past p k ns at′ n′ e (told .onward)) .later) in
+            Advanced.moved z (past-room p k ns at′ n′ e (told .onward)));
       })
-    where
-      onward : (x a l : ℕ) → Onward text at n (NumberLine.Number x a l) → Advanced text at (Progress.Moved a l)
-      onward x a l (Onward.moved h r) = let k : at ≤ a = omega arith in Advanced.moved k r
 
-  pub keep-refused : (q : Reason) (l : ℕ) → p ≡ NumberLine.Refused q l → KeepRead text f j rows at n w w (Progress.Refused q l)
-  keep-refused q l e =
-      record {
-        told = sym (ap (numberRead text) e) ∙ told;
+  pub keep-refused : (q : Reason) (l : ℕ) → p ≡ LineTaken.Refused q l → (r : Progress) → r ≡ stoppedBy p → KeepRead text f j rows at n w w r
+  keep-refused q l e r c =
+      subst (KeepRead text f j rows at n w w) (sym (c ∙ ap stoppedBy e))
+      (record {
+        told = sym (ap (lineRead text number) e) ∙ told .told;
         only = only-refl (keepAddress f j) (keepAddress f j + 1) w;
         advanced = Advanced.stopped;
-      }
+      })

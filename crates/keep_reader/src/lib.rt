@@ -4,9 +4,9 @@ ghost use lib.ListN.{length};
 ghost use Rattle.keep_reader.specs.Reads.{KeepRead, KeepsRead};
 ghost use Rattle.line_reader.specs.Told.{Room};
 ghost use Rattle.table.specs.Layout.{workSize};
-use line_reader::NumberLine;
+use line_reader::LineTaken;
 use line_reader::Progress;
-use sheet_rules::Place;
+use line_reader::Wanted;
 
 // Kept row j of form f, read from a place of the text, in a sheet of so many rows.
 fn read_keep(
@@ -21,17 +21,18 @@ fn read_keep(
     requires { ⌜ Room (now text) at line × (f < 64) × (j < 8) × (workSize ≤ length (now work)) ⌝ }
     ensures { λ r. ⌜ KeepRead (now (text .entry)) f j rows at line (now (work .entry)) (now (work .exit)) r ⌝ }
 {
-    match line_reader::read_existing(text, at, line, Place::Keep, rows) {
-        NumberLine::Number {
-            value,
-            at: next,
-            line: n,
-        } => {
-            table::stores::put_keep(work, f, j, value);
-            Progress::Moved { at: next, line: n }
-        }
-        NumberLine::Refused { reason, line: n } => Progress::Refused { reason, line: n },
-    }
+    let read = line_reader::take_line(text, at, line, Wanted::Keep { rows });
+    let LineTaken::Line {
+        place: _,
+        numbers,
+        at: next,
+        line: n,
+    } = read
+    else {
+        return line_reader::stopped(read);
+    };
+    table::stores::put_keep(work, f, j, numbers.n0);
+    Progress::Moved { at: next, line: n }
 }
 
 // The kept rows of form f, as many as its `form` line says, from a place of the text, in a sheet of so many rows.

@@ -1,32 +1,33 @@
-// One line of a sheet, read and judged: the lines that leave nothing in the table by themselves.
+// One line of a sheet, read and judged by where the reader stands.
 ghost use mathlib.Core.Path.{_≡_};
-ghost use mathlib.Core.List.{List};
-ghost use Prim.Native.Nat.{_<_, _+_};
-ghost use lib.ListN.{drop};
-ghost use Rattle.sheet_rules.specs.Sheet.{Row as RowRule};
-ghost use Rattle.sheet_rules.specs.Lines.{linesOf};
-ghost use Rattle.sheet_rules.specs.Reader.{one, countLine, existingLine};
-ghost use Rattle.sheet_rules.specs.RowLines.{rowLine};
-ghost use Rattle.sheet_rules.specs.FormLines.{formLine, bodyLine};
-ghost use Rattle.line_reader.specs.Told.{Room, settled, numberRead, Onward, pairSettled, pairRead, PairOnward};
-ghost use Rattle.judges.specs.Told.{rowTold, formTold};
-use judges::NumberJudged;
-use judges::PairJudged;
+ghost use Prim.Native.Nat.{_<_};
+ghost use Rattle.lexer.specs.Scan.{Fitting};
+ghost use Rattle.line_reader.specs.Told.{Room, Judges, settled, stoppedBy, LineTold};
+use judges::LineJudged;
 use lexer::LineRead;
+use lexer::Numbers;
 use sheet_rules::Place;
 use sheet_rules::Reason;
 
-// A line with one number: the number and the place after the line, or the refusal.
-pub enum NumberLine {
-    Number { value: u16, at: usize, line: u32 },
-    Refused { reason: Reason, line: u32 },
+// The line that a reader waits for: where it stands, and what its numbers are judged by.
+pub enum Wanted {
+    Types,
+    Row,
+    Member { lowest: u32 },
+    Forms,
+    Form { rows: u16 },
+    Keep { rows: u16 },
+    Init { keeps: u16 },
+    Body { used: u16 },
+    Main { used: u16 },
+    Instruction { forms: u16, filled: u16 },
 }
 
-// A line with two numbers: the numbers and the place after the line, or the refusal.
-pub enum PairLine {
-    Pair {
-        first: u16,
-        second: u16,
+// A line of the wanted place, judged: its numbers and the place after it, or the refusal.
+pub enum LineTaken {
+    Line {
+        place: Place,
+        numbers: Numbers,
         at: usize,
         line: u32,
     },
@@ -42,113 +43,47 @@ pub enum Progress {
     Refused { reason: Reason, line: u32 },
 }
 
-// A judged number, with the place after its line.
-fn number_line(judged: NumberJudged, at: usize, line: u32) -> NumberLine
-    requires { ⌜ line < 4294967295 ⌝ }
-    ensures { λ r. ⌜ r ≡ settled judged at line ⌝ }
+// The judgement of a line where another, or this one, is wanted.
+fn judge(wanted: Wanted, place: Place, numbers: Numbers) -> LineJudged
+    requires { ⌜ Fitting place numbers ⌝ }
+    ensures { λ r. ⌜ Judges wanted place numbers r ⌝ }
 {
-    match judged {
-        NumberJudged::Number { value } => NumberLine::Number {
-            value,
-            at,
-            line: line + 1,
-        },
-        NumberJudged::Refused { reason } => NumberLine::Refused { reason, line },
+    match wanted {
+        Wanted::Types => judges::count_line(Place::Types, 1, 64, place, numbers),
+        Wanted::Row => judges::row_line(place, numbers),
+        Wanted::Member { lowest } => judges::member_line(lowest, place, numbers),
+        Wanted::Forms => judges::count_line(Place::Forms, 0, 64, place, numbers),
+        Wanted::Form { rows } => judges::form_line(rows, place, numbers),
+        Wanted::Keep { rows } => judges::existing_line(Place::Keep, rows, place, numbers),
+        Wanted::Init { keeps } => judges::existing_line(Place::Init, keeps, place, numbers),
+        Wanted::Body { used } => judges::body_line(Place::Body, used, place, numbers),
+        Wanted::Main { used } => judges::body_line(Place::Main, used, place, numbers),
+        Wanted::Instruction { forms, filled } => {
+            instr_judge::instr_line(forms, filled, place, numbers)
+        }
     }
 }
 
-// A count within its limits: `types=T` and `forms=F`.
-pub fn read_count(
-    text: &[u8],
-    at: usize,
-    line: u32,
-    wanted: Place,
-    low: u16,
-    high: u16,
-) -> NumberLine
-    requires { ⌜ Room (now text) at line ⌝ }
-    ensures { λ r. ⌜ (numberRead (now (text .entry)) r ≡ one (countLine wanted low high) (linesOf (drop at (now (text .entry)))) line) × Onward (now (text .entry)) at line r ⌝ }
-{
-    let LineRead::Line {
-        place,
-        numbers,
-        next,
-    } = lexer::read_line(text, at)
-    else {
-        return NumberLine::Refused {
-            reason: Reason::Malformed,
-            line,
-        };
-    };
-    number_line(
-        judges::count_line(wanted, low, high, place, numbers),
-        next,
-        line,
-    )
-}
-
-// The number of something that is there: `keep=T` and `init=k`.
-pub fn read_existing(text: &[u8], at: usize, line: u32, wanted: Place, there: u16) -> NumberLine
-    requires { ⌜ Room (now text) at line ⌝ }
-    ensures { λ r. ⌜ (numberRead (now (text .entry)) r ≡ one (existingLine wanted there) (linesOf (drop at (now (text .entry)))) line) × Onward (now (text .entry)) at line r ⌝ }
-{
-    let LineRead::Line {
-        place,
-        numbers,
-        next,
-    } = lexer::read_line(text, at)
-    else {
-        return NumberLine::Refused {
-            reason: Reason::Malformed,
-            line,
-        };
-    };
-    number_line(
-        judges::existing_line(wanted, there, place, numbers),
-        next,
-        line,
-    )
-}
-
-// The instructions of a body or of main, after so many of the sheet.
-pub fn read_body(text: &[u8], at: usize, line: u32, wanted: Place, used: u16) -> NumberLine
-    requires { ⌜ Room (now text) at line ⌝ }
-    ensures { λ r. ⌜ (numberRead (now (text .entry)) r ≡ one (bodyLine wanted used) (linesOf (drop at (now (text .entry)))) line) × Onward (now (text .entry)) at line r ⌝ }
-{
-    let LineRead::Line {
-        place,
-        numbers,
-        next,
-    } = lexer::read_line(text, at)
-    else {
-        return NumberLine::Refused {
-            reason: Reason::Malformed,
-            line,
-        };
-    };
-    number_line(judges::body_line(wanted, used, place, numbers), next, line)
-}
-
-// Two judged numbers, with the place after their line.
-fn pair_line(judged: PairJudged, at: usize, line: u32) -> PairLine
+// A judged line, with the place after it.
+fn settle(judged: LineJudged, place: Place, numbers: Numbers, at: usize, line: u32) -> LineTaken
     requires { ⌜ line < 4294967295 ⌝ }
-    ensures { λ r. ⌜ r ≡ pairSettled judged at line ⌝ }
+    ensures { λ r. ⌜ r ≡ settled judged place numbers at line ⌝ }
 {
     match judged {
-        PairJudged::Pair { first, second } => PairLine::Pair {
-            first,
-            second,
+        LineJudged::Good => LineTaken::Line {
+            place,
+            numbers,
             at,
             line: line + 1,
         },
-        PairJudged::Refused { reason } => PairLine::Refused { reason, line },
+        LineJudged::Refused { reason } => LineTaken::Refused { reason, line },
     }
 }
 
-// `type=K,M`, but for the test whether the row has a twin.
-pub fn read_row_head(text: &[u8], at: usize, line: u32) -> PairLine
+// The line at a place of the text, where one is wanted.
+pub fn take_line(text: &[u8], at: usize, line: u32, wanted: Wanted) -> LineTaken
     requires { ⌜ Room (now text) at line ⌝ }
-    ensures { λ r. ⌜ ((earlier : List RowRule) → pairRead (now (text .entry)) line (rowTold earlier) r ≡ one (rowLine earlier) (linesOf (drop at (now (text .entry)))) line) × PairOnward (now (text .entry)) at line r ⌝ }
+    ensures { λ r. ⌜ LineTold wanted (now (text .entry)) at line r ⌝ }
 {
     let LineRead::Line {
         place,
@@ -156,29 +91,26 @@ pub fn read_row_head(text: &[u8], at: usize, line: u32) -> PairLine
         next,
     } = lexer::read_line(text, at)
     else {
-        return PairLine::Refused {
+        return LineTaken::Refused {
             reason: Reason::Malformed,
             line,
         };
     };
-    pair_line(judges::row_line(place, numbers), next, line)
+    let judged = judge(wanted, place, numbers);
+    settle(judged, place, numbers, next, line)
 }
 
-// `form=T,C`, in a sheet of so many rows.
-pub fn read_form_head(text: &[u8], at: usize, line: u32, rows: u16) -> PairLine
-    requires { ⌜ Room (now text) at line ⌝ }
-    ensures { λ r. ⌜ (pairRead (now (text .entry)) line formTold r ≡ one (formLine rows) (linesOf (drop at (now (text .entry)))) line) × PairOnward (now (text .entry)) at line r ⌝ }
+// Where a line was refused, reading stops.
+pub fn stopped(taken: LineTaken) -> Progress
+    ensures { λ r. ⌜ r ≡ stoppedBy taken ⌝ }
 {
-    let LineRead::Line {
-        place,
-        numbers,
-        next,
-    } = lexer::read_line(text, at)
-    else {
-        return PairLine::Refused {
-            reason: Reason::Malformed,
+    match taken {
+        LineTaken::Line {
+            place: _,
+            numbers: _,
+            at,
             line,
-        };
-    };
-    pair_line(judges::form_line(rows, place, numbers), next, line)
+        } => Progress::Moved { at, line },
+        LineTaken::Refused { reason, line } => Progress::Refused { reason, line },
+    }
 }

@@ -2,7 +2,7 @@
 use Prim.Native.Nat.{ℕ, suc, _+_, _≤_, _<_}
 use native.Mathlib.Omega.{arith}
 use mathlib.Core.Path.{_≡_, refl, sym, ap, ap₂, _∙_, subst}
-use mathlib.Core.Bool.{Bool, cond}
+use mathlib.Core.Bool.{cond}
 use mathlib.Core.List.{List}
 use lib.Dec.{eqb}
 use lib.ListN.{length, drop}
@@ -13,22 +13,24 @@ use Rattle.sheet_rules.specs.declared.Member.{Member}
 use Rattle.sheet_rules.specs.declared.Member.the-variants.{Method, Field}
 use Rattle.sheet_rules.specs.declared.Reason.{Reason}
 use Rattle.sheet_rules.specs.Lines.{linesOf}
-use Rattle.sheet_rules.specs.Sheet.{Part, Instr, init, body, sizeOfPart}
-use Rattle.sheet_rules.specs.Reader.{Read, got, refused, Reader, andThen, give, one, existingLine}
+use Rattle.sheet_rules.specs.Sheet.{Part, init, body, sizeOfPart}
+use Rattle.sheet_rules.specs.Reader.{got, refused, Reader, andThen, give}
 use Rattle.sheet_rules.specs.FormLines.{bodyLine, readInstrs, readPart}
 use Rattle.sheet_rules.proofs.ReaderLaws.{gives-one}
 use Rattle.sheet_rules.proofs.FormLinesLaws as Body
 use Rattle.sheet_rules.proofs.FormLinesLaws.{bodyLine-room}
-use Rattle.table.specs.Layout.{partAddress, instrAddress, tableEnd, workSize}
+use Rattle.table.specs.Layout.{partAddress, workSize}
 use Rattle.table.specs.View.{cell, instrIn, instrsIn, partFrom, partIn}
 use Rattle.table.specs.Pool.{OnlyFrom, partEnd}
 use Rattle.table.specs.Stores.{partPut}
 use Rattle.table.proofs.PoolLaws.{from-refl, from-trans, from→only, only→from, instrs→from}
 use Rattle.table.proofs.StoreLaws.{three-only, three-0, three-1, three-2}
-use Rattle.line_reader.specs.declared.NumberLine.{NumberLine}
+use Rattle.lexer.specs.declared.Numbers.{Numbers}
+use Rattle.line_reader.specs.declared.LineTaken.{LineTaken}
+use Rattle.line_reader.specs.declared.Wanted.{Wanted}
 use Rattle.line_reader.specs.declared.Progress.{Progress}
-use Rattle.line_reader.specs.Told.{Room, numberRead, Onward, readTold, Advanced}
-use Rattle.read_loop.proofs.ThenLaws.{number-then, number-stop, number-gives, onward-later, onward-room, advanced-sooner}
+use Rattle.line_reader.specs.Told.{number, LineTold, readTold, stoppedBy, Advanced}
+use Rattle.read_loop.proofs.ThenLaws.{line-then, line-stop, line-gives, past, past-room, advanced-sooner}
 use Rattle.instr_reader.specs.Reads.{InstrsRead}
 use Rattle.part_reader.specs.declared.PoolProgress.{PoolProgress}
 use Rattle.part_reader.specs.Reads.{pooled, plain, PartUsed, PartRead, fieldPart, bodyRest, methodPart}
@@ -49,48 +51,57 @@ module _ (text : List ℕ) (f j used at n : ℕ) (w : List ℕ) where
         used-then = λ a m u c. not-moved q l a m u c;
       }
 
-  module _ (keeps : ℕ) (p : NumberLine) (told : numberRead text p ≡ one (existingLine Place.Init keeps) (linesOf (drop at text)) n) where
-    pub field-refused : (q : Reason) (l : ℕ) → p ≡ NumberLine.Refused q l → PartRead text f j used (fieldPart keeps) at n w w (PoolProgress.Refused q l)
+  -- by what a line's reader gave
+  part-stopped : (part : Reader Part) (q : Reason) (l : ℕ) (p : LineTaken) → p ≡ LineTaken.Refused q l → part (linesOf (drop at text)) n ≡ refused q l
+      → (s : Progress) → s ≡ stoppedBy p → (r : PoolProgress) → r ≡ pooled s used → PartRead text f j used part at n w w r
+  part-stopped part q l p e x s cs r cr =
+      subst (PartRead text f j used part at n w w) (sym (cr ∙ ap (λ (y : Progress). pooled y used) (cs ∙ ap stoppedBy e))) (part-refused part q l x)
+
+  module _ (keeps : ℕ) (p : LineTaken) (told : LineTold (Wanted.Init keeps) text at n p) where
+    pub field-refused : (q : Reason) (l : ℕ) → p ≡ LineTaken.Refused q l → (s : Progress) → s ≡ stoppedBy p → (r : PoolProgress) → r ≡ pooled s used
+        → PartRead text f j used (fieldPart keeps) at n w w r
     unfolding fieldPart
-    field-refused q l e = part-refused (fieldPart keeps) q l (number-stop text _ (λ k. give (init k)) p told q l e)
+    field-refused q l e = part-stopped (fieldPart keeps) q l p e (line-stop text number _ (λ k. give (init k)) p (told .told) q l e)
 
-    module _ (v : ℕ) (size : workSize ≤ length w) where
-      init-from : OnlyFrom (partAddress f j) used w (partPut w f j 0 v 0)
-      init-from = only→from used (omega arith) (three-only w (partAddress f j) 0 v 0)
+    module _ (k : Place) (ns : Numbers) (size : workSize ≤ length w) where
+      init-from : OnlyFrom (partAddress f j) used w (partPut w f j 0 (ns .n0) 0)
+      init-from = only→from used (omega arith) (three-only w (partAddress f j) 0 (ns .n0) 0)
 
-      init-part : partIn (partPut w f j 0 v 0) f j ≡ init v
+      init-part : partIn (partPut w f j 0 (ns .n0) 0) f j ≡ init (ns .n0)
       unfolding partIn
       init-part =
-          ap₂ (λ (t a : ℕ). partFrom (partPut w f j 0 v 0) t a (cell (partPut w f j 0 v 0) (partAddress f j + 2)))
-          (three-0 w (partAddress f j) 0 v 0 (omega arith)) (three-1 w (partAddress f j) 0 v 0 (omega arith))
+          ap₂ (λ (t a : ℕ). partFrom (partPut w f j 0 (ns .n0) 0) t a (cell (partPut w f j 0 (ns .n0) 0) (partAddress f j + 2)))
+          (three-0 w (partAddress f j) 0 (ns .n0) 0 (omega arith)) (three-1 w (partAddress f j) 0 (ns .n0) 0 (omega arith))
 
-      init-used : used ≤ 1024 → PartUsed (partPut w f j 0 v 0) f j used used
+      init-used : used ≤ 1024 → PartUsed (partPut w f j 0 (ns .n0) 0) f j used used
       init-used few = record { counted = counted; few = few; ends = ends }
         where
-          counted : used ≡ used + sizeOfPart (partIn (partPut w f j 0 v 0) f j)
-          counted = let e : sizeOfPart (partIn (partPut w f j 0 v 0) f j) ≡ 0 = ap sizeOfPart init-part in omega arith
+          counted : used ≡ used + sizeOfPart (partIn (partPut w f j 0 (ns .n0) 0) f j)
+          counted = let e : sizeOfPart (partIn (partPut w f j 0 (ns .n0) 0) f j) ≡ 0 = ap sizeOfPart init-part in omega arith
 
-          ends : partEnd (partPut w f j 0 v 0) f j ≤ used
+          ends : partEnd (partPut w f j 0 (ns .n0) 0) f j ≤ used
           ends =
-              let e : partEnd (partPut w f j 0 v 0) f j ≡ 0 =
-              ap (λ (t : ℕ). cond (eqb t 0) 0 (cell (partPut w f j 0 v 0) (partAddress f j + 1) + cell (partPut w f j 0 v 0) (partAddress f j + 2)))
-              (three-0 w (partAddress f j) 0 v 0 (omega arith)) in
+              let e : partEnd (partPut w f j 0 (ns .n0) 0) f j ≡ 0 =
+              ap (λ (t : ℕ). cond (eqb t 0) 0 (cell (partPut w f j 0 (ns .n0) 0) (partAddress f j + 1) + cell (partPut w f j 0 (ns .n0) 0) (partAddress f j + 2)))
+              (three-0 w (partAddress f j) 0 (ns .n0) 0 (omega arith)) in
               omega arith
 
-      pub field-read : used ≤ 1024 → (at′ n′ : ℕ) → p ≡ NumberLine.Number v at′ n′ → Onward text at n p
-          → (w′ : List ℕ) → w′ ≡ partPut w f j 0 v 0 → PartRead text f j used (fieldPart keeps) at n w w′ (PoolProgress.Moved at′ n′ used)
+      pub field-read : used ≤ 1024 → (at′ n′ : ℕ) → p ≡ LineTaken.Line k ns at′ n′
+          → (w′ : List ℕ) → w′ ≡ partPut w f j 0 (ns .n0) 0 → PartRead text f j used (fieldPart keeps) at n w w′ (PoolProgress.Moved at′ n′ used)
       unfolding fieldPart
-      field-read few at′ n′ e o w′ s =
+      field-read few at′ n′ e w′ s =
           subst (λ (x : List ℕ). PartRead text f j used (fieldPart keeps) at n w x (PoolProgress.Moved at′ n′ used)) (sym s)
           (record {
             read =
                 record {
-                  told = ap (λ (x : Part). got x (linesOf (drop at′ text)) n′) init-part ∙ sym (number-then text _ (λ k. give (init k)) p told v at′ n′ e);
+                  told = ap (λ (x : Part). got x (linesOf (drop at′ text)) n′) init-part ∙ sym (line-then text number _ (λ k. give (init k)) p (told .told) k ns at′ n′ e);
                   only = from→only (partAddress f j) used init-from;
-                  advanced = (let z : at ≤ at′ = omega (arith, onward-later p v at′ n′ e o) in Advanced.moved z (onward-room p v at′ n′ e o));
+                  advanced =
+                      (let z : at ≤ at′ = omega (arith, (past p k ns at′ n′ e (told .onward)) .later) in
+                      Advanced.moved z (past-room p k ns at′ n′ e (told .onward)));
                 };
             from = init-from;
-            used-then = λ a m u c. subst (PartUsed (partPut w f j 0 v 0) f j used) (moved-used at′ n′ used a m u c) (init-used few);
+            used-then = λ a m u c. subst (PartUsed (partPut w f j 0 (ns .n0) 0) f j used) (moved-used at′ n′ used a m u c) (init-used few);
           })
 
   -- a body's instructions, read after its part was stored
@@ -170,31 +181,32 @@ module _ (text : List ℕ) (f j used at n : ℕ) (w : List ℕ) where
       (subst (λ (k : ℕ). InstrsRead text k number forms (keeps + 2) at n w₁ w′ r) es m))
 
   -- by what the `body` line's reader gave
-  module _ (forms keeps : ℕ) (p : NumberLine) (told : numberRead text p ≡ one (bodyLine Place.Body used) (linesOf (drop at text)) n) where
-    pub method-refused : (q : Reason) (l : ℕ) → p ≡ NumberLine.Refused q l → PartRead text f j used (methodPart forms keeps used) at n w w (PoolProgress.Refused q l)
+  module _ (forms keeps : ℕ) (p : LineTaken) (told : LineTold (Wanted.Body used) text at n p) where
+    pub method-refused : (q : Reason) (l : ℕ) → p ≡ LineTaken.Refused q l → (s : Progress) → s ≡ stoppedBy p → (r : PoolProgress) → r ≡ pooled s used
+        → PartRead text f j used (methodPart forms keeps used) at n w w r
     unfolding methodPart
-    method-refused q l e = part-refused (methodPart forms keeps used) q l (number-stop text _ (bodyRest forms keeps) p told q l e)
+    method-refused q l e = part-stopped (methodPart forms keeps used) q l p e (line-stop text number _ (bodyRest forms keeps) p (told .told) q l e)
 
-    module _ (v at′ n′ : ℕ) (e : p ≡ NumberLine.Number v at′ n′) where
-      room-for : Body.Room used v
-      room-for = number-gives text _ p told v at′ n′ e (Body.Room used) (gives-one (Body.Room used) (bodyLine Place.Body used) (bodyLine-room Place.Body used) (linesOf (drop at text)) n)
+    module _ (k : Place) (ns : Numbers) (at′ n′ : ℕ) (e : p ≡ LineTaken.Line k ns at′ n′) where
+      room-for : Body.Room used (ns .n0)
+      room-for = line-gives text number _ p (told .told) k ns at′ n′ e (Body.Room used) (gives-one (Body.Room used) (bodyLine Place.Body used) (bodyLine-room Place.Body used) (linesOf (drop at text)) n)
 
-      pub body-some : 1 ≤ v
+      pub body-some : 1 ≤ (ns .n0)
       body-some = room-for .some
 
-      pub body-whole : used + v ≤ 1024
+      pub body-whole : used + (ns .n0) ≤ 1024
       body-whole = room-for .whole
 
-      pub method-read : Onward text at n p → (w′ : List ℕ) (r : PoolProgress) → PartRead text f j used (bodyRest forms keeps v) at′ n′ w w′ r
+      pub method-read : (w′ : List ℕ) (r : PoolProgress) → PartRead text f j used (bodyRest forms keeps (ns .n0)) at′ n′ w w′ r
           → PartRead text f j used (methodPart forms keeps used) at n w w′ r
       unfolding methodPart
-      method-read o w′ r m =
+      method-read w′ r m =
           record {
             read =
                 record {
-                  told = m .read .told ∙ sym (number-then text _ (bodyRest forms keeps) p told v at′ n′ e);
+                  told = m .read .told ∙ sym (line-then text number _ (bodyRest forms keeps) p (told .told) k ns at′ n′ e);
                   only = m .read .only;
-                  advanced = (let z : at ≤ at′ = omega (arith, onward-later p v at′ n′ e o) in advanced-sooner z (plain r) (m .read .advanced));
+                  advanced = (let z : at ≤ at′ = omega (arith, (past p k ns at′ n′ e (told .onward)) .later) in advanced-sooner z (plain r) (m .read .advanced));
                 };
             from = m .from;
             used-then = m .used-then;

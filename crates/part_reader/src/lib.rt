@@ -6,10 +6,10 @@ ghost use Rattle.sheet_rules.specs.FormLines.{readPart};
 ghost use Rattle.line_reader.specs.Told.{Room};
 ghost use Rattle.table.specs.Layout.{workSize};
 ghost use Rattle.part_reader.specs.Reads.{pooled, PartRead, fieldPart, methodPart, bodyRest};
-use line_reader::NumberLine;
+use line_reader::LineTaken;
 use line_reader::Progress;
+use line_reader::Wanted;
 use sheet_rules::Member;
-use sheet_rules::Place;
 use sheet_rules::Reason;
 use table::rows::wide;
 
@@ -44,20 +44,21 @@ fn read_field(
     requires { ⌜ Room (now text) at line × (f < 64) × (j < 8) × (used ≤ 1024) × (workSize ≤ length (now work)) ⌝ }
     ensures { λ r. ⌜ PartRead (now (text .entry)) f j used (fieldPart keeps) at line (now (work .entry)) (now (work .exit)) r ⌝ }
 {
-    match line_reader::read_existing(text, at, line, Place::Init, keeps) {
-        NumberLine::Number {
-            value,
-            at: next,
-            line: n,
-        } => {
-            table::stores::put_part(work, f, j, 0, value, 0);
-            PoolProgress::Moved {
-                at: next,
-                line: n,
-                used,
-            }
-        }
-        NumberLine::Refused { reason, line: n } => PoolProgress::Refused { reason, line: n },
+    let read = line_reader::take_line(text, at, line, Wanted::Init { keeps });
+    let LineTaken::Line {
+        place: _,
+        numbers,
+        at: next,
+        line: n,
+    } = read
+    else {
+        return pool_progress(line_reader::stopped(read), used);
+    };
+    table::stores::put_part(work, f, j, 0, numbers.n0, 0);
+    PoolProgress::Moved {
+        at: next,
+        line: n,
+        used,
     }
 }
 
@@ -106,14 +107,18 @@ fn read_method(
     requires { ⌜ Room (now text) at line × (f < 64) × (j < 8) × (keeps ≤ 8) × (used ≤ 1024) × (workSize ≤ length (now work)) ⌝ }
     ensures { λ r. ⌜ PartRead (now (text .entry)) f j used (methodPart forms keeps used) at line (now (work .entry)) (now (work .exit)) r ⌝ }
 {
-    match line_reader::read_body(text, at, line, Place::Body, used) {
-        NumberLine::Number {
-            value,
-            at: next,
-            line: n,
-        } => keep_body(text, work, f, j, forms, keeps, used, value, next, n),
-        NumberLine::Refused { reason, line: n } => PoolProgress::Refused { reason, line: n },
-    }
+    let read = line_reader::take_line(text, at, line, Wanted::Body { used });
+    let LineTaken::Line {
+        place: _,
+        numbers,
+        at: next,
+        line: n,
+    } = read
+    else {
+        return pool_progress(line_reader::stopped(read), used);
+    };
+    let count = numbers.n0;
+    keep_body(text, work, f, j, forms, keeps, used, count, next, n)
 }
 
 // Part j of form f, for a member of its row, in a sheet of so many forms; the form keeps so many values, and so many

@@ -1,10 +1,8 @@
 -- Reading main: a law for each exit. Assumes nothing.
-use Prim.Native.Nat.{ℕ, _+_, _*_, _≤_, _<_}
+use Prim.Native.Nat.{ℕ, _+_, _≤_, _<_}
 use native.Mathlib.Omega.{arith}
-use mathlib.Core.Path.{_≡_, refl, sym, ap, ap₂, _∙_, subst}
-use mathlib.Core.Bool.{cond}
+use mathlib.Core.Path.{_≡_, refl, sym, ap, _∙_, subst}
 use mathlib.Core.List.{List}
-use lib.Dec.{eqb}
 use lib.ListN.{length, drop}
 use lib.Seq.{getD-set-same, getD-set-other}
 use Rattle.lists.proofs.TabLaws.{tab-ext}
@@ -14,26 +12,28 @@ use Rattle.sheet_rules.specs.declared.Reason.{Reason}
 use Rattle.sheet_rules.specs.declared.Reason.the-variants.{Malformed}
 use Rattle.sheet_rules.specs.declared.Verdict.{Verdict}
 use Rattle.sheet_rules.specs.Lines.{linesOf}
-use Rattle.sheet_rules.specs.Sheet.{Row, Instr, Form, Sheet, sizeOfForms}
-use Rattle.sheet_rules.specs.Reader.{Read, got, refused, andThen, give, one}
+use Rattle.sheet_rules.specs.Sheet.{Sheet, sizeOfForms}
+use Rattle.sheet_rules.specs.Reader.{Read, refused, andThen, give, one}
 use Rattle.sheet_rules.specs.FormLines.{bodyLine, readInstrs}
 use Rattle.sheet_rules.specs.Reading.{conclude}
 use Rattle.sheet_rules.proofs.ReaderLaws.{gives-one}
 use Rattle.sheet_rules.proofs.FormLinesLaws as Body
 use Rattle.sheet_rules.proofs.FormLinesLaws.{bodyLine-room}
-use Rattle.table.specs.Layout.{rowCountAt, formCountAt, mainStartAt, mainCountAt, rowAddress, formAddress, partAddress, instrAddress, tableEnd, workSize}
-use Rattle.table.specs.View.{cell, rowIn, rowsIn, instrIn, instrsIn, formIn, formsIn, sheetIn}
+use Rattle.table.specs.Layout.{rowCountAt, formCountAt, mainStartAt, mainCountAt, instrAddress, tableEnd, workSize}
+use Rattle.table.specs.View.{cell, rowIn, rowsIn, instrsIn, formIn, formsIn, sheetIn}
 use Rattle.table.specs.Only.{Only}
 use Rattle.table.specs.Pool.{OnlyFrom, FormEnds, Placed}
 use Rattle.table.specs.Ready.{Ready}
 use Rattle.table.specs.Stores.{threePut, countsPut}
-use Rattle.table.proofs.ViewLaws.{SameFrom, only-refl, only-trans, only-widen, only-set, row-same, instr-same, part-same, form-same}
+use Rattle.table.proofs.ViewLaws.{only-refl, only-trans, only-widen, only-set, row-same, instr-same, part-same, form-same}
 use Rattle.table.proofs.PoolLaws.{instrs→from, row-kept, form-kept, ends-same, form-ends-kept}
 use Rattle.table.proofs.StoreLaws.{three-only, three-0, three-1, three-2}
-use Rattle.line_reader.specs.declared.NumberLine.{NumberLine}
+use Rattle.lexer.specs.declared.Numbers.{Numbers}
+use Rattle.line_reader.specs.declared.LineTaken.{LineTaken}
+use Rattle.line_reader.specs.declared.Wanted.{Wanted}
 use Rattle.line_reader.specs.declared.Progress.{Progress}
-use Rattle.line_reader.specs.Told.{Room, numberRead, readTold}
-use Rattle.read_loop.proofs.ThenLaws.{then-stop, number-then, number-stop, number-gives, moved-then, moved-stop}
+use Rattle.line_reader.specs.Told.{Room, number as first, lineRead, LineTold}
+use Rattle.read_loop.proofs.ThenLaws.{then-stop, line-then, line-stop, line-gives, moved-then, moved-stop}
 use Rattle.instr_reader.specs.Reads.{InstrsRead}
 use Rattle.form_reader.specs.Reads.{FormsUsed}
 use Rattle.reader.specs.Reads.{verdictMeans, endRest, instrsRest, mainRest, RestRead}
@@ -86,39 +86,39 @@ pub rest-refused : (q : Reason) (l : ℕ) (s : Sheet) (x : Read Sheet) (v : Verd
 rest-refused q l s x v ev ex = ap (λ (y : Verdict). verdictMeans y s) ev ∙ sym (ap conclude ex)
 
 module _ (text : List ℕ) (rows forms used at n : ℕ) (w : List ℕ) (ready : Ready rows w) (small : forms ≤ 64) (by : FormsUsed w forms used)
-    (p : NumberLine) (told : numberRead text p ≡ one (bodyLine Place.Main used) (linesOf (drop at text)) n) where
-  told-here : numberRead text p ≡ one (bodyLine Place.Main (sizeOfForms (formsIn w forms))) (linesOf (drop at text)) n
-  told-here = told ∙ ap (λ (u : ℕ). one (bodyLine Place.Main u) (linesOf (drop at text)) n) (by .counted)
+    (p : LineTaken) (told : LineTold (Wanted.Main used) text at n p) where
+  told-here : lineRead text first p ≡ one (bodyLine Place.Main (sizeOfForms (formsIn w forms))) (linesOf (drop at text)) n
+  told-here = told .told ∙ ap (λ (u : ℕ). one (bodyLine Place.Main u) (linesOf (drop at text)) n) (by .counted)
 
-  pub main-refused : (q : Reason) (l : ℕ) → p ≡ NumberLine.Refused q l → (v : Verdict) → v ≡ Verdict.Refused q l
+  pub main-refused : (q : Reason) (l : ℕ) → p ≡ LineTaken.Refused q l → (v : Verdict) → v ≡ Verdict.Refused q l
       → RestRead text (mainRest (rowsIn w rows) forms (formsIn w forms)) at n w w v
   unfolding mainRest
   main-refused q l e v ev =
       record {
-        told = rest-refused q l (sheetIn w) _ v ev (number-stop text _ (instrsRest (rowsIn w rows) forms (formsIn w forms)) p told-here q l e);
+        told = rest-refused q l (sheetIn w) _ v ev (line-stop text first _ (instrsRest (rowsIn w rows) forms (formsIn w forms)) p told-here q l e);
         only = only-refl 0 tableEnd w;
         placed = not-accepted q l v ev;
       }
 
-  module _ (i at′ n′ : ℕ) (e : p ≡ NumberLine.Number i at′ n′) where
-    room-for : Body.Room used i
-    room-for = number-gives text _ p told i at′ n′ e (Body.Room used) (gives-one (Body.Room used) (bodyLine Place.Main used) (bodyLine-room Place.Main used) (linesOf (drop at text)) n)
+  module _ (k : Place) (ns : Numbers) (at′ n′ : ℕ) (e : p ≡ LineTaken.Line k ns at′ n′) where
+    room-for : Body.Room used (ns .n0)
+    room-for = line-gives text first _ p (told .told) k ns at′ n′ e (Body.Room used) (gives-one (Body.Room used) (bodyLine Place.Main used) (bodyLine-room Place.Main used) (linesOf (drop at text)) n)
 
-    pub main-whole : used + i ≤ 1024
+    pub main-whole : used + (ns .n0) ≤ 1024
     main-whole = room-for .whole
 
-    module _ (w₁ : List ℕ) (stored : w₁ ≡ countsPut w rows forms used i) (start number : ℕ) (start-is : start ≡ used) (number-is : number ≡ i)
+    module _ (w₁ : List ℕ) (stored : w₁ ≡ countsPut w rows forms used (ns .n0)) (start number : ℕ) (start-is : start ≡ used) (number-is : number ≡ (ns .n0))
         (w′ : List ℕ) (r : Progress) (m₁ : InstrsRead text start number forms 0 at′ n′ w₁ w′ r) where
-      m : InstrsRead text used i forms 0 at′ n′ w₁ w′ r
+      m : InstrsRead text used (ns .n0) forms 0 at′ n′ w₁ w′ r
       m =
           subst (λ (k : ℕ). InstrsRead text used k forms 0 at′ n′ w₁ w′ r) number-is
           (subst (λ (k : ℕ). InstrsRead text k number forms 0 at′ n′ w₁ w′ r) start-is m₁)
 
       head-only : Only 0 4 w w₁
-      head-only = subst (Only 0 4 w) (sym stored) (counts-only w rows forms used i (ready .size))
+      head-only = subst (Only 0 4 w) (sym stored) (counts-only w rows forms used (ns .n0) (ready .size))
 
       pool-from : OnlyFrom (instrAddress 0) used w₁ w′
-      pool-from = instrs→from used i (omega arith) (room-for .some) (room-for .whole) (m .only)
+      pool-from = instrs→from used (ns .n0) (omega arith) (room-for .some) (room-for .whole) (m .only)
 
       main-only : Only 0 tableEnd w w′
       main-only =
@@ -126,9 +126,9 @@ module _ (text : List ℕ) (rows forms used at n : ℕ) (w : List ℕ) (ready : 
           (only-widen (omega arith) (let a = room-for .some in let b = room-for .whole in omega arith) (m .only))
 
       told-main : mainRest (rowsIn w rows) forms (formsIn w forms) (linesOf (drop at text)) n
-          ≡ andThen (readInstrs forms 0 i (linesOf (drop at′ text)) n′) (endRest (rowsIn w rows) (formsIn w forms))
+          ≡ andThen (readInstrs forms 0 (ns .n0) (linesOf (drop at′ text)) n′) (endRest (rowsIn w rows) (formsIn w forms))
       unfolding mainRest instrsRest
-      told-main = number-then text _ (instrsRest (rowsIn w rows) forms (formsIn w forms)) p told-here i at′ n′ e
+      told-main = line-then text first _ (instrsRest (rowsIn w rows) forms (formsIn w forms)) p told-here k ns at′ n′ e
 
       pub instrs-refused : (q : Reason) (l : ℕ) → r ≡ Progress.Refused q l → (v : Verdict) → v ≡ Verdict.Refused q l
           → RestRead text (mainRest (rowsIn w rows) forms (formsIn w forms)) at n w w′ v
@@ -136,13 +136,13 @@ module _ (text : List ℕ) (rows forms used at n : ℕ) (w : List ℕ) (ready : 
           record {
             told =
                 rest-refused q l (sheetIn w′) _ v ev
-                (told-main ∙ moved-stop text _ (endRest (rowsIn w rows) (formsIn w forms)) r (instrsIn w′ used i) (m .told) q l c);
+                (told-main ∙ moved-stop text _ (endRest (rowsIn w rows) (formsIn w forms)) r (instrsIn w′ used (ns .n0)) (m .told) q l c);
             only = main-only;
             placed = not-accepted q l v ev;
           }
 
       -- the sheet that the table holds
-      cell-kept : (k : ℕ) → k < 16 → cell w′ k ≡ cell (countsPut w rows forms used i) k
+      cell-kept : (k : ℕ) → k < 16 → cell w′ k ≡ cell (countsPut w rows forms used (ns .n0)) k
       cell-kept k h = pool-from .below k (omega arith) ∙ ap (λ (x : List ℕ). cell x k) stored
 
       rows-there : rowsIn w′ rows ≡ rowsIn w rows
@@ -153,15 +153,15 @@ module _ (text : List ℕ) (rows forms used at n : ℕ) (w : List ℕ) (ready : 
           tab-ext (formIn w′) (formIn w) forms
           (λ k h. form-kept (instrAddress 0) used w₁ w′ pool-from (by .few) k (omega arith) (counts-ends w w₁ head-only k used (by .ends k h)) ∙ counts-form w w₁ head-only k)
 
-      sheet-there : sheetIn w′ ≡ record { rows = rowsIn w rows; forms = formsIn w forms; main = instrsIn w′ used i }
+      sheet-there : sheetIn w′ ≡ record { rows = rowsIn w rows; forms = formsIn w forms; main = instrsIn w′ used (ns .n0) }
       unfolding sheetIn
       sheet-there =
           λ x. record {
-            rows = (ap (rowsIn w′) (cell-kept rowCountAt (omega arith) ∙ count-0 w rows forms used i (ready .size)) ∙ rows-there) x;
-            forms = (ap (formsIn w′) (cell-kept formCountAt (omega arith) ∙ count-1 w rows forms used i (ready .size)) ∙ forms-there) x;
+            rows = (ap (rowsIn w′) (cell-kept rowCountAt (omega arith) ∙ count-0 w rows forms used (ns .n0) (ready .size)) ∙ rows-there) x;
+            forms = (ap (formsIn w′) (cell-kept formCountAt (omega arith) ∙ count-1 w rows forms used (ns .n0) (ready .size)) ∙ forms-there) x;
             main =
-                instrsIn w′ ((cell-kept mainStartAt (omega arith) ∙ count-2 w rows forms used i (ready .size)) x)
-                ((cell-kept mainCountAt (omega arith) ∙ count-3 w rows forms used i (ready .size)) x);
+                instrsIn w′ ((cell-kept mainStartAt (omega arith) ∙ count-2 w rows forms used (ns .n0) (ready .size)) x)
+                ((cell-kept mainCountAt (omega arith) ∙ count-3 w rows forms used (ns .n0) (ready .size)) x);
           }
 
       all-placed : Placed w′
@@ -171,17 +171,17 @@ module _ (text : List ℕ) (rows forms used at n : ℕ) (w : List ℕ) (ready : 
                 form-ends-kept (instrAddress 0) used w₁ w′ pool-from (by .few) f 1024 (by .few) (omega (arith, count))
                 (counts-ends w w₁ head-only f used (by .ends f (omega (arith, count))));
             main =
-                (let a = cell-kept mainStartAt (omega arith) ∙ count-2 w rows forms used i (ready .size) in
-                let b = cell-kept mainCountAt (omega arith) ∙ count-3 w rows forms used i (ready .size) in
+                (let a = cell-kept mainStartAt (omega arith) ∙ count-2 w rows forms used (ns .n0) (ready .size) in
+                let b = cell-kept mainCountAt (omega arith) ∙ count-3 w rows forms used (ns .n0) (ready .size) in
                 omega (arith, room-for .whole));
           }
         where
           count : cell w′ formCountAt ≡ forms
-          count = cell-kept formCountAt (omega arith) ∙ count-1 w rows forms used i (ready .size)
+          count = cell-kept formCountAt (omega arith) ∙ count-1 w rows forms used (ns .n0) (ready .size)
 
       module _ (at″ n″ : ℕ) (moved : r ≡ Progress.Moved at″ n″) where
-        told-end : mainRest (rowsIn w rows) forms (formsIn w forms) (linesOf (drop at text)) n ≡ endRest (rowsIn w rows) (formsIn w forms) (instrsIn w′ used i) (linesOf (drop at″ text)) n″
-        told-end = told-main ∙ moved-then text _ (endRest (rowsIn w rows) (formsIn w forms)) r (instrsIn w′ used i) (m .told) at″ n″ moved
+        told-end : mainRest (rowsIn w rows) forms (formsIn w forms) (linesOf (drop at text)) n ≡ endRest (rowsIn w rows) (formsIn w forms) (instrsIn w′ used (ns .n0)) (linesOf (drop at″ text)) n″
+        told-end = told-main ∙ moved-then text _ (endRest (rowsIn w rows) (formsIn w forms)) r (instrsIn w′ used (ns .n0)) (m .told) at″ n″ moved
 
         pub after-main : at″ < length text → RestRead text (mainRest (rowsIn w rows) forms (formsIn w forms)) at n w w′ (Verdict.Refused Malformed n″)
         unfolding endRest
@@ -190,7 +190,7 @@ module _ (text : List ℕ) (rows forms used at n : ℕ) (w : List ℕ) (ready : 
               told =
                   rest-refused Malformed n″ (sheetIn w′) _ _ refl
                   (told-end
-                  ∙ then-stop _ (λ end. give (record { rows = rowsIn w rows; forms = formsIn w forms; main = instrsIn w′ used i })) Malformed n″ (sym (not-at-end text at″ n″ h)));
+                  ∙ then-stop _ (λ end. give (record { rows = rowsIn w rows; forms = formsIn w forms; main = instrsIn w′ used (ns .n0) })) Malformed n″ (sym (not-at-end text at″ n″ h)));
               only = main-only;
               placed = not-accepted Malformed n″ (Verdict.Refused Malformed n″) refl;
             }
@@ -203,7 +203,7 @@ module _ (text : List ℕ) (rows forms used at n : ℕ) (w : List ℕ) (ready : 
                   ap (verdictMeans Verdict.Accepted) sheet-there
                   ∙ sym (ap conclude
                   (told-end
-                  ∙ ap (λ x. andThen x (λ end. give (record { rows = rowsIn w rows; forms = formsIn w forms; main = instrsIn w′ used i }))) (at-end text at″ n″ h)));
+                  ∙ ap (λ x. andThen x (λ end. give (record { rows = rowsIn w rows; forms = formsIn w forms; main = instrsIn w′ used (ns .n0) }))) (at-end text at″ n″ h)));
               only = main-only;
               placed = λ e. all-placed;
             }

@@ -1,8 +1,8 @@
 -- Reading a whole sheet: rows, then forms, then main; a law for each exit. Assumes nothing.
-use Prim.Native.Nat.{ℕ, _+_, _≤_, _<_}
+use Prim.Native.Nat.{ℕ, _≤_, _<_}
 use native.Mathlib.Omega.{arith}
-use mathlib.Core.Path.{_≡_, refl, sym, ap, ap₂, _∙_, subst}
-use mathlib.Core.Bool.{Bool, true, false, cond}
+use mathlib.Core.Path.{_≡_, refl, sym, ap, _∙_, subst}
+use mathlib.Core.Bool.{Bool, true, cond}
 use mathlib.Core.List.{List, []}
 use lib.Dec.{leb}
 use lib.ListN.{length, drop}
@@ -13,57 +13,59 @@ use Rattle.sheet_rules.specs.declared.Place.{Place}
 use Rattle.sheet_rules.specs.declared.Reason.{Reason}
 use Rattle.sheet_rules.specs.declared.Reason.the-variants.{BufferTooShort, TextTooLong}
 use Rattle.sheet_rules.specs.declared.Verdict.{Verdict}
-use Rattle.sheet_rules.specs.Limits.{textLimit, rowLimit, formLimit}
+use Rattle.sheet_rules.specs.Limits.{textLimit}
 use Rattle.sheet_rules.specs.Lines.{Line, linesOf}
-use Rattle.sheet_rules.specs.Sheet.{Row, Form}
+use Rattle.sheet_rules.specs.Sheet.{Row}
 use Rattle.sheet_rules.specs.Reader.{got, one, many, countLine, andThen}
 use Rattle.sheet_rules.specs.RowLines.{readRow}
 use Rattle.sheet_rules.specs.FormLines.{readForm}
 use Rattle.sheet_rules.specs.WellFormed.{WellFormed}
-use Rattle.sheet_rules.specs.Reading.{Meaning, readable, unreadable, readSheet, conclude, meaning}
+use Rattle.sheet_rules.specs.Reading.{readable, unreadable, readSheet, conclude, meaning}
 use Rattle.sheet_rules.proofs.ReaderLaws.{Gives, its-got, gives-one}
 use Rattle.sheet_rules.proofs.RowLinesLaws.{WellFormedRows, readRows-wellFormed}
 use Rattle.sheet_rules.proofs.ReadingLaws.{countLine-within, readable-wellFormed}
-use Rattle.table.specs.Layout.{rowAddress, formAddress, tableEnd, workSize}
-use Rattle.table.specs.View.{cell, rowIn, rowsIn, formsIn, sheetIn}
+use Rattle.table.specs.Layout.{formAddress, tableEnd, workSize}
+use Rattle.table.specs.View.{rowIn, rowsIn, formsIn, sheetIn}
 use Rattle.table.specs.Only.{Only}
 use Rattle.table.specs.Ready.{Ready}
 use Rattle.table.proofs.ViewLaws.{only-refl, only-trans, only-widen, row-same}
 use Rattle.table.proofs.RowLaws.{rows-ready, ready-kept}
-use Rattle.line_reader.specs.declared.NumberLine.{NumberLine}
+use Rattle.lexer.specs.declared.Numbers.{Numbers}
+use Rattle.line_reader.specs.declared.LineTaken.{LineTaken}
+use Rattle.line_reader.specs.declared.Wanted.{Wanted}
 use Rattle.line_reader.specs.declared.Progress.{Progress}
-use Rattle.line_reader.specs.Told.{Room, numberRead, readTold, Advanced}
+use Rattle.line_reader.specs.Told.{Room, number, LineTold, readTold, Advanced}
 use Rattle.read_loop.proofs.LoopLaws.{advanced-room}
-use Rattle.read_loop.proofs.ThenLaws.{number-then, number-stop, number-gives, moved-then, moved-stop, onward-room}
+use Rattle.read_loop.proofs.ThenLaws.{line-then, line-stop, line-gives, moved-then, moved-stop}
 use Rattle.row_reader.specs.Reads.{RowsRead}
 use Rattle.part_reader.specs.declared.PoolProgress.{PoolProgress}
 use Rattle.part_reader.specs.Reads.{plain}
 use Rattle.form_reader.specs.Reads.{FormsUsed, FormsRead}
-use Rattle.reader.specs.Reads.{verdictMeans, endRest, instrsRest, mainRest, formsRest, rowsRest, RestRead, SheetRead}
+use Rattle.reader.specs.Reads.{endRest, instrsRest, mainRest, formsRest, rowsRest, RestRead, SheetRead}
 use Rattle.reader.proofs.MainLaws.{not-accepted, rest-refused}
 
 -- FORMS AND MAIN
 
 module _ (text : List ℕ) (rows at n : ℕ) (w : List ℕ) (ready : Ready rows w)
-    (p : NumberLine) (told : numberRead text p ≡ one (countLine Place.Forms 0 64) (linesOf (drop at text)) n) where
-  pub forms-line-refused : (q : Reason) (l : ℕ) → p ≡ NumberLine.Refused q l → (v : Verdict) → v ≡ Verdict.Refused q l
+    (p : LineTaken) (told : LineTold Wanted.Forms text at n p) where
+  pub forms-line-refused : (q : Reason) (l : ℕ) → p ≡ LineTaken.Refused q l → (v : Verdict) → v ≡ Verdict.Refused q l
       → RestRead text (rowsRest (rowsIn w rows)) at n w w v
   unfolding rowsRest
   forms-line-refused q l e v ev =
-      record { told = rest-refused q l (sheetIn w) _ v ev (number-stop text _ (formsRest (rowsIn w rows)) p told q l e); only = only-refl 0 tableEnd w; placed = not-accepted q l v ev }
+      record { told = rest-refused q l (sheetIn w) _ v ev (line-stop text number _ (formsRest (rowsIn w rows)) p (told .told) q l e); only = only-refl 0 tableEnd w; placed = not-accepted q l v ev }
 
-  module _ (f at′ n′ : ℕ) (e : p ≡ NumberLine.Number f at′ n′) where
-    pub forms-few : f ≤ 64
+  module _ (k : Place) (ns : Numbers) (at′ n′ : ℕ) (e : p ≡ LineTaken.Line k ns at′ n′) where
+    pub forms-few : (ns .n0) ≤ 64
     forms-few =
-        (number-gives text _ p told f at′ n′ e (λ k. (0 ≤ k) × (k ≤ 64))
+        (line-gives text number _ p (told .told) k ns at′ n′ e (λ k. (0 ≤ k) × (k ≤ 64))
         (gives-one (λ k. (0 ≤ k) × (k ≤ 64)) (countLine Place.Forms 0 64) (countLine-within Place.Forms 0 64) (linesOf (drop at text)) n)) .1
 
     told-forms : rowsRest (rowsIn w rows) (linesOf (drop at text)) n
-        ≡ andThen (many f (readForm (rowsIn w rows) f) [] (linesOf (drop at′ text)) n′) (mainRest (rowsIn w rows) f)
+        ≡ andThen (many (ns .n0) (readForm (rowsIn w rows) (ns .n0)) [] (linesOf (drop at′ text)) n′) (mainRest (rowsIn w rows) (ns .n0))
     unfolding rowsRest formsRest
-    told-forms = number-then text _ (formsRest (rowsIn w rows)) p told f at′ n′ e
+    told-forms = line-then text number _ (formsRest (rowsIn w rows)) p (told .told) k ns at′ n′ e
 
-    module _ (w₁ : List ℕ) (r : PoolProgress) (m : FormsRead text rows f at′ n′ w w₁ r) where
+    module _ (w₁ : List ℕ) (r : PoolProgress) (m : FormsRead text rows (ns .n0) at′ n′ w w₁ r) where
       forms-only : Only 0 tableEnd w w₁
       forms-only = only-widen (omega arith) (omega arith) (m .read .only)
 
@@ -73,7 +75,7 @@ module _ (text : List ℕ) (rows at n : ℕ) (w : List ℕ) (ready : Ready rows 
           record {
             told =
                 rest-refused q l (sheetIn w₁) _ v ev
-                (told-forms ∙ moved-stop text _ (mainRest (rowsIn w rows) f) (plain r) (formsIn w₁ f) (m .read .told) q l (ap plain c));
+                (told-forms ∙ moved-stop text _ (mainRest (rowsIn w rows) (ns .n0)) (plain r) (formsIn w₁ (ns .n0)) (m .read .told) q l (ap plain c));
             only = forms-only;
             placed = not-accepted q l v ev;
           }
@@ -88,16 +90,16 @@ module _ (text : List ℕ) (rows at n : ℕ) (w : List ℕ) (ready : Ready rows 
         pub forms-room : Room text at″ n″
         forms-room = advanced-room (subst (Advanced text at′) (ap plain moved) (m .read .advanced))
 
-        pub forms-used : FormsUsed w₁ f u
+        pub forms-used : FormsUsed w₁ (ns .n0) u
         forms-used = m .used-then at″ n″ u moved
 
-        pub forms-main : (w′ : List ℕ) (v : Verdict) → RestRead text (mainRest (rowsIn w₁ rows) f (formsIn w₁ f)) at″ n″ w₁ w′ v → RestRead text (rowsRest (rowsIn w rows)) at n w w′ v
+        pub forms-main : (w′ : List ℕ) (v : Verdict) → RestRead text (mainRest (rowsIn w₁ rows) (ns .n0) (formsIn w₁ (ns .n0))) at″ n″ w₁ w′ v → RestRead text (rowsRest (rowsIn w rows)) at n w w′ v
         forms-main w′ v k =
             record {
               told =
                   k .told
-                  ∙ ap (λ (rs : List Row). conclude (mainRest rs f (formsIn w₁ f) (linesOf (drop at″ text)) n″)) rows-same
-                  ∙ sym (ap conclude (told-forms ∙ moved-then text _ (mainRest (rowsIn w rows) f) (plain r) (formsIn w₁ f) (m .read .told) at″ n″ (ap plain moved)));
+                  ∙ ap (λ (rs : List Row). conclude (mainRest rs (ns .n0) (formsIn w₁ (ns .n0)) (linesOf (drop at″ text)) n″)) rows-same
+                  ∙ sym (ap conclude (told-forms ∙ moved-then text _ (mainRest (rowsIn w rows) (ns .n0)) (plain r) (formsIn w₁ (ns .n0)) (m .read .told) at″ n″ (ap plain moved)));
               only = only-trans forms-only (k .only);
               placed = k .placed;
             }
@@ -110,28 +112,28 @@ unfolding readSheet rowsRest formsRest mainRest instrsRest endRest
 sheet-rest ls n = refl
 
 module _ (text : List ℕ) (w : List ℕ) (size : workSize ≤ length w)
-    (p : NumberLine) (told : numberRead text p ≡ one (countLine Place.Types 1 64) (linesOf (drop 0 text)) 1) where
-  pub types-refused : (q : Reason) (l : ℕ) → p ≡ NumberLine.Refused q l → (v : Verdict) → v ≡ Verdict.Refused q l → RestRead text readSheet 0 1 w w v
+    (p : LineTaken) (told : LineTold Wanted.Types text 0 1 p) where
+  pub types-refused : (q : Reason) (l : ℕ) → p ≡ LineTaken.Refused q l → (v : Verdict) → v ≡ Verdict.Refused q l → RestRead text readSheet 0 1 w w v
   types-refused q l e v ev =
       record {
         told =
             rest-refused q l (sheetIn w) _ v ev
-            (sheet-rest (linesOf (drop 0 text)) 1 ∙ number-stop text _ (λ t ls n. andThen (many t readRow [] ls n) rowsRest) p told q l e);
+            (sheet-rest (linesOf (drop 0 text)) 1 ∙ line-stop text number _ (λ t ls n. andThen (many t readRow [] ls n) rowsRest) p (told .told) q l e);
         only = only-refl 0 tableEnd w;
         placed = not-accepted q l v ev;
       }
 
-  module _ (t at′ n′ : ℕ) (e : p ≡ NumberLine.Number t at′ n′) where
-    pub types-few : t ≤ 64
+  module _ (k : Place) (ns : Numbers) (at′ n′ : ℕ) (e : p ≡ LineTaken.Line k ns at′ n′) where
+    pub types-few : (ns .n0) ≤ 64
     types-few =
-        (number-gives text _ p told t at′ n′ e (λ k. (1 ≤ k) × (k ≤ 64))
+        (line-gives text number _ p (told .told) k ns at′ n′ e (λ k. (1 ≤ k) × (k ≤ 64))
         (gives-one (λ k. (1 ≤ k) × (k ≤ 64)) (countLine Place.Types 1 64) (countLine-within Place.Types 1 64) (linesOf (drop 0 text)) 1)) .1
 
-    told-rows : readSheet (linesOf (drop 0 text)) 1 ≡ andThen (many t readRow [] (linesOf (drop at′ text)) n′) rowsRest
-    told-rows = sheet-rest (linesOf (drop 0 text)) 1 ∙ number-then text _ (λ t ls n. andThen (many t readRow [] ls n) rowsRest) p told t at′ n′ e
+    told-rows : readSheet (linesOf (drop 0 text)) 1 ≡ andThen (many (ns .n0) readRow [] (linesOf (drop at′ text)) n′) rowsRest
+    told-rows = sheet-rest (linesOf (drop 0 text)) 1 ∙ line-then text number _ (λ t ls n. andThen (many t readRow [] ls n) rowsRest) p (told .told) k ns at′ n′ e
 
-    module _ (count : ℕ) (count-is : count ≡ t) (w₁ : List ℕ) (r : Progress) (m₁ : RowsRead text count at′ n′ w w₁ r) where
-      m : RowsRead text t at′ n′ w w₁ r
+    module _ (count : ℕ) (count-is : count ≡ (ns .n0)) (w₁ : List ℕ) (r : Progress) (m₁ : RowsRead text count at′ n′ w w₁ r) where
+      m : RowsRead text (ns .n0) at′ n′ w w₁ r
       m = subst (λ (k : ℕ). RowsRead text k at′ n′ w w₁ r) count-is m₁
 
       rows-only : Only 0 tableEnd w w₁
@@ -140,7 +142,7 @@ module _ (text : List ℕ) (w : List ℕ) (size : workSize ≤ length w)
       pub rows-refused : (q : Reason) (l : ℕ) → r ≡ Progress.Refused q l → (v : Verdict) → v ≡ Verdict.Refused q l → RestRead text readSheet 0 1 w w₁ v
       rows-refused q l c v ev =
           record {
-            told = rest-refused q l (sheetIn w₁) _ v ev (told-rows ∙ moved-stop text _ rowsRest r (rowsIn w₁ t) (m .told) q l c);
+            told = rest-refused q l (sheetIn w₁) _ v ev (told-rows ∙ moved-stop text _ rowsRest r (rowsIn w₁ (ns .n0)) (m .told) q l c);
             only = rows-only;
             placed = not-accepted q l v ev;
           }
@@ -149,22 +151,22 @@ module _ (text : List ℕ) (w : List ℕ) (size : workSize ≤ length w)
         pub rows-room : Room text at″ n″
         rows-room = advanced-room (subst (Advanced text at′) moved (m .advanced))
 
-        well-formed : WellFormedRows (rowsIn w₁ t)
+        well-formed : WellFormedRows (rowsIn w₁ (ns .n0))
         well-formed =
-            go (rowsIn w₁ t)
-            (subst (Gives (λ rows. WellFormedRows rows × (length rows ≡ t))) (sym (ap (λ (x : Progress). readTold text x (rowsIn w₁ t)) (sym moved) ∙ m .told))
-            (readRows-wellFormed t (linesOf (drop at′ text)) n′))
+            go (rowsIn w₁ (ns .n0))
+            (subst (Gives (λ rows. WellFormedRows rows × (length rows ≡ (ns .n0)))) (sym (ap (λ (x : Progress). readTold text x (rowsIn w₁ (ns .n0))) (sym moved) ∙ m .told))
+            (readRows-wellFormed (ns .n0) (linesOf (drop at′ text)) n′))
           where
-            go : (rows : List Row) → Gives (λ rows. WellFormedRows rows × (length rows ≡ t)) (got rows (linesOf (drop at″ text)) n″) → WellFormedRows rows
+            go : (rows : List Row) → Gives (λ rows. WellFormedRows rows × (length rows ≡ (ns .n0))) (got rows (linesOf (drop at″ text)) n″) → WellFormedRows rows
             go rows (its-got x) = x .0
 
-        pub rows-then-ready : Ready t w₁
-        rows-then-ready = rows-ready t w₁ (omega (arith, m .only .size)) types-few well-formed
+        pub rows-then-ready : Ready (ns .n0) w₁
+        rows-then-ready = rows-ready (ns .n0) w₁ (omega (arith, m .only .size)) types-few well-formed
 
-        pub rows-forms : (w′ : List ℕ) (v : Verdict) → RestRead text (rowsRest (rowsIn w₁ t)) at″ n″ w₁ w′ v → RestRead text readSheet 0 1 w w′ v
+        pub rows-forms : (w′ : List ℕ) (v : Verdict) → RestRead text (rowsRest (rowsIn w₁ (ns .n0))) at″ n″ w₁ w′ v → RestRead text readSheet 0 1 w w′ v
         rows-forms w′ v k =
             record {
-              told = k .told ∙ sym (ap conclude (told-rows ∙ moved-then text _ rowsRest r (rowsIn w₁ t) (m .told) at″ n″ moved));
+              told = k .told ∙ sym (ap conclude (told-rows ∙ moved-then text _ rowsRest r (rowsIn w₁ (ns .n0)) (m .told) at″ n″ moved));
               only = only-trans rows-only (k .only);
               placed = k .placed;
             }

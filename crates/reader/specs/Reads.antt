@@ -1,5 +1,5 @@
 -- What reading a sheet into the table ensures. Stands on the rules of reading and on the table's view.
-use Prim.Native.Nat.{ℕ, _≤_}
+use Prim.Native.Nat.{ℕ}
 use mathlib.Core.Path.{_≡_}
 use mathlib.Core.Bool.{false, cond}
 use mathlib.Core.List.{List, []}
@@ -18,15 +18,10 @@ use Rattle.table.specs.Layout.{tableEnd, workSize}
 use Rattle.table.specs.View.{sheetIn}
 use Rattle.table.specs.Only.{Only}
 use Rattle.table.specs.Pool.{Placed}
-use Rattle.line_reader.specs.declared.NumberLine.{NumberLine}
 use Rattle.line_reader.specs.declared.Progress.{Progress}
 use Rattle.part_reader.specs.declared.PoolProgress.{PoolProgress}
 
--- a line's, or some lines', answer as a verdict
-abbrev pub numberVerdict : NumberLine → Verdict
-numberVerdict (NumberLine.Number v at n) = Verdict.Accepted
-numberVerdict (NumberLine.Refused r n) = Verdict.Refused r n
-
+-- some lines' answer as a verdict
 abbrev pub progressVerdict : Progress → Verdict
 progressVerdict (Progress.Moved at n) = Verdict.Accepted
 progressVerdict (Progress.Refused r n) = Verdict.Refused r n

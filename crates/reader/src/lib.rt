@@ -9,24 +9,14 @@ ghost use Rattle.table.specs.Layout.{workSize};
 ghost use Rattle.table.specs.Ready.{Ready};
 ghost use Rattle.table.specs.View.{rowsIn, formsIn};
 ghost use Rattle.form_reader.specs.Reads.{FormsUsed};
-ghost use Rattle.reader.specs.Reads.{numberVerdict, progressVerdict, poolVerdict, mainRest, rowsRest, RestRead, SheetRead};
-use line_reader::NumberLine;
+ghost use Rattle.reader.specs.Reads.{progressVerdict, poolVerdict, mainRest, rowsRest, RestRead, SheetRead};
+use line_reader::LineTaken;
 use line_reader::Progress;
+use line_reader::Wanted;
 use part_reader::PoolProgress;
-use sheet_rules::Place;
 use sheet_rules::Reason;
 use sheet_rules::Verdict;
 use table::rows::wide;
-
-// The verdict of a line with one number.
-fn number_verdict(read: NumberLine) -> Verdict
-    ensures { λ r. ⌜ r ≡ numberVerdict read ⌝ }
-{
-    match read {
-        NumberLine::Number { .. } => Verdict::Accepted,
-        NumberLine::Refused { reason, line } => Verdict::Refused { reason, line },
-    }
-}
 
 // The verdict of some lines.
 fn progress_verdict(read: Progress) -> Verdict
@@ -61,12 +51,19 @@ fn read_main(
     requires { ⌜ Room (now text) from first × (forms ≤ 64) × Ready rows (now work) × FormsUsed (now work) forms used ⌝ }
     ensures { λ r. ⌜ RestRead (now (text .entry)) (mainRest (rowsIn (now (work .entry)) rows) forms (formsIn (now (work .entry)) forms)) from first (now (work .entry)) (now (work .exit)) r ⌝ }
 {
-    let head = line_reader::read_body(text, from, first, Place::Main, used);
-    let NumberLine::Number { value, at, line } = head else {
-        return number_verdict(head);
+    let head = line_reader::take_line(text, from, first, Wanted::Main { used });
+    let LineTaken::Line {
+        place: _,
+        numbers,
+        at,
+        line,
+    } = head
+    else {
+        return progress_verdict(line_reader::stopped(head));
     };
-    table::stores::put_counts(work, rows, forms, used, value);
-    let body = instr_reader::read_instrs(text, work, wide(used), wide(value), forms, 0, at, line);
+    let count = numbers.n0;
+    table::stores::put_counts(work, rows, forms, used, count);
+    let body = instr_reader::read_instrs(text, work, wide(used), wide(count), forms, 0, at, line);
     let Progress::Moved {
         at: end,
         line: last,
@@ -88,20 +85,27 @@ fn read_after_rows(text: &[u8], work: &mut [u16], rows: u16, from: usize, first:
     requires { ⌜ Room (now text) from first × Ready rows (now work) ⌝ }
     ensures { λ r. ⌜ RestRead (now (text .entry)) (rowsRest (rowsIn (now (work .entry)) rows)) from first (now (work .entry)) (now (work .exit)) r ⌝ }
 {
-    let head = line_reader::read_count(text, from, first, Place::Forms, 0, 64);
-    let NumberLine::Number { value, at, line } = head else {
-        return number_verdict(head);
+    let head = line_reader::take_line(text, from, first, Wanted::Forms);
+    let LineTaken::Line {
+        place: _,
+        numbers,
+        at,
+        line,
+    } = head
+    else {
+        return progress_verdict(line_reader::stopped(head));
     };
-    let forms = form_reader::read_forms(text, work, rows, value, at, line);
+    let forms = numbers.n0;
+    let read = form_reader::read_forms(text, work, rows, forms, at, line);
     let PoolProgress::Moved {
         at: next,
         line: n,
         used,
-    } = forms
+    } = read
     else {
-        return pool_verdict(forms);
+        return pool_verdict(read);
     };
-    read_main(text, work, rows, value, used, next, n)
+    read_main(text, work, rows, forms, used, next, n)
 }
 
 // A whole sheet, from its `types` line on.
@@ -109,15 +113,22 @@ fn read_from_types(text: &[u8], work: &mut [u16]) -> Verdict
     requires { ⌜ (length (now text) ≤ 65535) × (workSize ≤ length (now work)) ⌝ }
     ensures { λ r. ⌜ RestRead (now (text .entry)) readSheet 0 1 (now (work .entry)) (now (work .exit)) r ⌝ }
 {
-    let head = line_reader::read_count(text, 0, 1, Place::Types, 1, 64);
-    let NumberLine::Number { value, at, line } = head else {
-        return number_verdict(head);
+    let head = line_reader::take_line(text, 0, 1, Wanted::Types);
+    let LineTaken::Line {
+        place: _,
+        numbers,
+        at,
+        line,
+    } = head
+    else {
+        return progress_verdict(line_reader::stopped(head));
     };
-    let rows = row_reader::read_rows(text, work, wide(value), at, line);
-    let Progress::Moved { at: next, line: n } = rows else {
-        return progress_verdict(rows);
+    let rows = numbers.n0;
+    let read = row_reader::read_rows(text, work, wide(rows), at, line);
+    let Progress::Moved { at: next, line: n } = read else {
+        return progress_verdict(read);
     };
-    read_after_rows(text, work, value, next, n)
+    read_after_rows(text, work, rows, next, n)
 }
 
 // Reads a sheet into the table: accepted so far, or refused with a reason from 1 to 7.

@@ -11,13 +11,13 @@ use lib.Seq.{getD-set-same, getD-set-other}
 use Rattle.lists.specs.Tab.{tab}
 use Rattle.lists.proofs.TabLaws.{tab-ext}
 use Rattle.sheet_rules.specs.declared.Member.{Member}
+use Rattle.sheet_rules.specs.declared.Place.{Place}
 use Rattle.sheet_rules.specs.declared.Reason.{Reason}
 use Rattle.sheet_rules.specs.declared.Reason.the-variants.{DuplicateRow}
 use Rattle.sheet_rules.specs.Lines.{Line, linesOf}
 use Rattle.sheet_rules.specs.Sheet.{Row}
-use Rattle.sheet_rules.specs.Reader.{refused, give, andThen, settle, one, many}
+use Rattle.sheet_rules.specs.Reader.{Judged, refused, give, andThen, settle, one, many}
 use Rattle.sheet_rules.specs.RowLines.{Heading, kindOf, twin, rowLine, memberLine, readRow}
-use Rattle.judges.specs.declared.PairJudged.{PairJudged}
 use Rattle.judges.specs.Told.{rowTold}
 use Rattle.judges.proofs.JudgeLaws.{demand-no, demand-yes}
 use Rattle.table.specs.Layout.{rowAddress, workSize}
@@ -25,9 +25,11 @@ use Rattle.table.specs.View.{cell, membersIn, rowIn, rowsIn}
 use Rattle.table.specs.Only.{Only}
 use Rattle.table.specs.Stores.{rowHeadPut}
 use Rattle.table.proofs.ViewLaws.{only-refl, only-set, only-trans, only-widen, row-other}
-use Rattle.line_reader.specs.declared.PairLine.{PairLine}
+use Rattle.lexer.specs.declared.Numbers.{Numbers}
+use Rattle.line_reader.specs.declared.LineTaken.{LineTaken}
+use Rattle.line_reader.specs.declared.Wanted.{Wanted}
 use Rattle.line_reader.specs.declared.Progress.{Progress}
-use Rattle.line_reader.specs.Told.{pairRead, PairOnward, readTold, Advanced}
+use Rattle.line_reader.specs.Told.{Room, lineAsked, LineTold, readTold, stoppedBy, Advanced}
 use Rattle.read_loop.proofs.ThenLaws.{past, advanced-sooner}
 use Rattle.row_reader.specs.Reads.{headingIn, Headed, MembersRead, rowRest, RowKept, RowRead}
 
@@ -75,13 +77,13 @@ module _ (w : List ℕ) (i kind count : ℕ) (size : workSize ≤ length w) wher
         go true e = ap₂ twin (rows-kept (headed w i kind count) headed-only) (lone (eqb→eq count 0 (subst T (sym e) tt)))
 
     told-twin : (eqb count 0 && twin (rowsIn (headed w i kind count) i) (rowIn (headed w i kind count) i)) ≡ true
-        → (ls : List Line) (n : ℕ) → rowRest (rowsIn w i) (settle (rowTold (rowsIn w i) (PairJudged.Pair kind count)) ls n) ≡ refused DuplicateRow n
+        → (ls : List Line) (n : ℕ) → rowRest (rowsIn w i) (settle (rowTold (rowsIn w i) kind count) ls n) ≡ refused DuplicateRow n
     unfolding rowRest andThen settle
     told-twin e ls n = ap (λ x. rowRest (rowsIn w i) (settle x ls n)) (demand-no _ _ _ (ap not (sym twin-asked ∙ e)))
 
     told-on : (eqb count 0 && twin (rowsIn (headed w i kind count) i) (rowIn (headed w i kind count) i)) ≡ false
         → (ls : List Line) (n : ℕ)
-        → rowRest (rowsIn w i) (settle (rowTold (rowsIn w i) (PairJudged.Pair kind count)) ls n)
+        → rowRest (rowsIn w i) (settle (rowTold (rowsIn w i) kind count) ls n)
         ≡ andThen (many count (λ before. one (memberLine (rowsIn w i) (record { kind = kindOf kind; count = count }) before)) [] ls (suc n))
         (λ members. give (record { kind = kindOf kind; members = members }))
     unfolding rowRest andThen settle
@@ -158,27 +160,35 @@ rest-refused : (earlier : List Row) (q : Reason) (n : ℕ) → rowRest earlier (
 unfolding rowRest andThen
 rest-refused earlier q n = refl
 
-module _ (text : List ℕ) (at n : ℕ) where
-  module _ (i : ℕ) (w : List ℕ) (p : PairLine)
-      (head : (earlier : List Row) → pairRead text n (rowTold earlier) p ≡ one (rowLine earlier) (linesOf (drop at text)) n) where
-    told-by : readRow (rowsIn w i) (linesOf (drop at text)) n ≡ rowRest (rowsIn w i) (pairRead text n (rowTold (rowsIn w i)) p)
-    told-by = readRow-rest (rowsIn w i) (linesOf (drop at text)) n ∙ ap (rowRest (rowsIn w i)) (sym (head (rowsIn w i)))
+-- by what the heading's reader gave
+module _ (text : List ℕ) (at n i : ℕ) (w : List ℕ) (p : LineTaken) (told : LineTold Wanted.Row text at n p) where
+  abbrev asked : Place → Numbers → Judged Heading
+  asked k ns = rowTold (rowsIn w i) (ns .n0) (ns .n1)
 
-    pub row-read : (a b at′ n′ : ℕ) → p ≡ PairLine.Pair a b at′ n′ → PairOnward text at n p → (w′ : List ℕ) (r : Progress)
-        → RowKept text i a b at′ n w w′ r → RowRead text i at n w w′ r
-    row-read a b at′ n′ e o w′ r k =
+  told-by : readRow (rowsIn w i) (linesOf (drop at text)) n ≡ rowRest (rowsIn w i) (lineAsked text n asked p)
+  told-by = readRow-rest (rowsIn w i) (linesOf (drop at text)) n ∙ ap (rowRest (rowsIn w i)) (sym (told .told .0 (rowsIn w i)))
+
+  module _ (k : Place) (ns : Numbers) (at′ n′ : ℕ) (e : p ≡ LineTaken.Line k ns at′ n′) where
+    pub row-room : Room text at′ (n + 1)
+    row-room = (past p k ns at′ n′ e (told .onward)) .room
+
+    pub row-few : ns .n1 ≤ 8
+    row-few = told .told .1 k ns at′ n′ e
+
+    pub row-read : (w′ : List ℕ) (r : Progress) → RowKept text i (ns .n0) (ns .n1) at′ n w w′ r → RowRead text i at n w w′ r
+    row-read w′ r k₁ =
         record {
-          told = k .told ∙ sym (told-by ∙ ap (λ (x : PairLine). rowRest (rowsIn w i) (pairRead text n (rowTold (rowsIn w i)) x)) e);
-          only = k .only;
-          advanced = (let z : at ≤ at′ = omega (arith, (past text at n p a b at′ n′ e o) .later) in advanced-sooner z r (k .advanced));
+          told = k₁ .told ∙ sym (told-by ∙ ap (λ (x : LineTaken). rowRest (rowsIn w i) (lineAsked text n asked x)) e);
+          only = k₁ .only;
+          advanced = (let z : at ≤ at′ = omega (arith, (past p k ns at′ n′ e (told .onward)) .later) in advanced-sooner z r (k₁ .advanced));
         }
 
-    pub row-refused : (q : Reason) (l : ℕ) → p ≡ PairLine.Refused q l → RowRead text i at n w w (Progress.Refused q l)
-    row-refused q l e =
-        record {
-          told =
-              sym (told-by ∙ ap (λ (x : PairLine). rowRest (rowsIn w i) (pairRead text n (rowTold (rowsIn w i)) x)) e
-              ∙ rest-refused (rowsIn w i) q l);
-          only = only-refl (rowAddress i) (rowAddress i + 36) w;
-          advanced = Advanced.stopped;
-        }
+  pub row-refused : (q : Reason) (l : ℕ) → p ≡ LineTaken.Refused q l → (r : Progress) → r ≡ stoppedBy p → RowRead text i at n w w r
+  row-refused q l e r c =
+      subst (RowRead text i at n w w) (sym (c ∙ ap stoppedBy e))
+      (record {
+        told =
+            sym (told-by ∙ ap (λ (x : LineTaken). rowRest (rowsIn w i) (lineAsked text n asked x)) e ∙ rest-refused (rowsIn w i) q l);
+        only = only-refl (rowAddress i) (rowAddress i + 36) w;
+        advanced = Advanced.stopped;
+      })

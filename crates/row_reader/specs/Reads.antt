@@ -10,7 +10,6 @@ use Rattle.sheet_rules.specs.Reader.{Read, give, andThen, settle, one, many}
 use Rattle.sheet_rules.specs.RowLines.{Heading, kindOf, memberLine, readRow}
 use Rattle.lexer.specs.declared.Numbers.{Numbers}
 use Rattle.lexer.specs.Scan.{listOf}
-use Rattle.judges.specs.declared.PairJudged.{PairJudged}
 use Rattle.judges.specs.Told.{memberRest, rowTold}
 use Rattle.table.specs.Layout.{rowAddress, memberAddress, workSize}
 use Rattle.table.specs.View.{cell, memberIn, membersIn, rowIn, rowsIn}
@@ -65,7 +64,7 @@ rowRest earlier x =
 -- a row whose heading was read at line n, kept
 pub record RowKept (text : List ℕ) (i kind count at n : ℕ) (w w′ : List ℕ) (r : Progress) : Type 0 where
   pub told : readTold text r (rowIn w′ i)
-      ≡ rowRest (rowsIn w i) (settle (rowTold (rowsIn w i) (PairJudged.Pair kind count)) (linesOf (drop at text)) n)
+      ≡ rowRest (rowsIn w i) (settle (rowTold (rowsIn w i) kind count) (linesOf (drop at text)) n)
   pub only : Only (rowAddress i) (rowAddress i + 36) w w′
   pub advanced : Advanced text at r
 

@@ -5,11 +5,10 @@ ghost use Rattle.judges.specs.Told.{MemberShaped};
 ghost use Rattle.row_reader.specs.Reads.{Headed, InRow, Kept, MemberRead, MembersRead, RowKept, RowRead, RowsRead};
 ghost use Rattle.line_reader.specs.Told.{Room};
 ghost use Rattle.table.specs.Layout.{workSize};
-use judges::LineJudged;
-use lexer::LineRead;
 use lexer::Numbers;
-use line_reader::PairLine;
+use line_reader::LineTaken;
 use line_reader::Progress;
+use line_reader::Wanted;
 use sheet_rules::Place;
 use sheet_rules::Reason;
 
@@ -61,22 +60,18 @@ fn read_member(
     requires { ⌜ Room (now text) at line × InRow (now work) i j count ⌝ }
     ensures { λ r. ⌜ MemberRead (now (text .entry)) i j at line (now (work .entry)) (now (work .exit)) r ⌝ }
 {
-    let LineRead::Line {
+    let lowest = row_store::lowest_name(work, i, j);
+    let read = line_reader::take_line(text, at, line, Wanted::Member { lowest });
+    let LineTaken::Line {
         place,
         numbers,
-        next,
-    } = lexer::read_line(text, at)
+        at: next,
+        line: _,
+    } = read
     else {
-        return Progress::Refused {
-            reason: Reason::Malformed,
-            line,
-        };
+        return line_reader::stopped(read);
     };
-    let lowest = row_store::lowest_name(work, i, j);
-    match judges::member_line(lowest, place, numbers) {
-        LineJudged::Good => keep_member(work, i, j, count, place, numbers, next, line),
-        LineJudged::Refused { reason } => Progress::Refused { reason, line },
-    }
+    keep_member(work, i, j, count, place, numbers, next, line)
 }
 
 // The members of row i, whose heading is stored.
@@ -135,15 +130,17 @@ fn read_row(text: &[u8], work: &mut [u16], i: usize, at: usize, line: u32) -> Pr
     requires { ⌜ Room (now text) at line × (i < 64) × (workSize ≤ length (now work)) ⌝ }
     ensures { λ r. ⌜ RowRead (now (text .entry)) i at line (now (work .entry)) (now (work .exit)) r ⌝ }
 {
-    match line_reader::read_row_head(text, at, line) {
-        PairLine::Pair {
-            first,
-            second,
-            at: next,
-            line: _,
-        } => keep_row(text, work, i, first, second, next, line),
-        PairLine::Refused { reason, line: n } => Progress::Refused { reason, line: n },
-    }
+    let read = line_reader::take_line(text, at, line, Wanted::Row);
+    let LineTaken::Line {
+        place: _,
+        numbers,
+        at: next,
+        line: _,
+    } = read
+    else {
+        return line_reader::stopped(read);
+    };
+    keep_row(text, work, i, numbers.n0, numbers.n1, next, line)
 }
 
 // The rows of a sheet, as many as its `types` line says, from a place of the text.

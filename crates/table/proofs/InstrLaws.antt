@@ -1,20 +1,18 @@
 -- The instruction at a place of the pool, its slots, and a part, by the numbers that the accessors read. Assumes nothing.
-use Prim.Native.Nat.{ℕ, suc, _+_, _-_, _*_, _≤_, _<_, min}
+use Prim.Native.Nat.{ℕ, _+_, _-_, _≤_, _<_, min}
 use native.Mathlib.Omega.{arith}
 use mathlib.Core.Path.{_≡_, refl, sym, ap, _∙_}
-use mathlib.Core.Bool.{Bool, true, false, cond}
+use mathlib.Core.Bool.{Bool, cond}
 use mathlib.Core.List.{List}
-use lib.Dec.{eqb}
 use lib.ListN.{length, getD, take, drop, length-take, length-drop, List·getD-eq-default}
 use lib.Seq.{getD-take, getD-drop}
 use borrow.Author.Tests.{eq-eqb, ne-eqb}
 use Rattle.lists.proofs.TabLaws.{length-tab, getD-tab}
-use Rattle.sheet_rules.specs.Sheet.{Instr, new, call, get, put, copy, Part, init, body}
+use Rattle.sheet_rules.specs.Sheet.{Instr, new, call, get, put, copy, init, body}
 use Rattle.sheet_rules.specs.Reader.{nth}
 use Rattle.table.specs.Layout.{partAddress, instrAddress, slotRowAddress}
 use Rattle.table.specs.View.{cell, numbersIn, instrFrom, instrIn, instrsIn, partFrom, partIn}
 use Rattle.table.specs.Told.{newSlots, slotRowsIn}
-use Rattle.table.proofs.FormLaws.{part-address}
 
 -- an instruction, read from its block's first place
 
