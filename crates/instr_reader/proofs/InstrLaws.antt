@@ -18,19 +18,18 @@ use Rattle.table.specs.View.{operationCode, instrFrom}
 use Rattle.table.proofs.ViewLaws.{only-refl}
 use Rattle.line_reader.specs.declared.LineTaken.{LineTaken}
 use Rattle.line_reader.specs.declared.Progress.{Progress}
-use Rattle.line_reader.specs.declared.Wanted.{Wanted}
-use Rattle.line_reader.specs.Told.{instruction, lineRead, LineTold, stoppedBy, Advanced}
+use Rattle.line_reader.specs.Told.{instruction, lineRead, InstrTold, stoppedBy, Advanced}
 use Rattle.read_loop.proofs.ThenLaws.{past, past-room}
 use Rattle.instr_reader.specs.Reads.{nineOf, StoredInstr, InstrRead}
 use Rattle.instr_reader.proofs.CountLaws.{stored-rule}
 
 -- by what the line's reader gave
-module _ (text : List ℕ) (p forms filled at n : ℕ) (w : List ℕ) (t : LineTaken) (told : LineTold (Wanted.Instruction forms filled) text at n t) where
+module _ (text : List ℕ) (p forms filled at n : ℕ) (w : List ℕ) (t : LineTaken) (told : InstrTold forms filled text at n t) where
   pub instr-refused : (q : Reason) (l : ℕ) → t ≡ LineTaken.Refused q l → (r : Progress) → r ≡ stoppedBy t → InstrRead text p forms filled at n w w r
   instr-refused q l e r c =
       subst (InstrRead text p forms filled at n w w) (sym (c ∙ ap stoppedBy e))
       (record {
-        told = sym (ap (lineRead text instruction) e) ∙ told .told .0;
+        told = sym (ap (lineRead text instruction) e) ∙ told .told;
         only = only-refl (instrAddress p) (instrAddress p + 11) w;
         advanced = Advanced.stopped;
       })
@@ -45,8 +44,8 @@ module _ (text : List ℕ) (p forms filled at n : ℕ) (w : List ℕ) (t : LineT
         told =
             ap (λ (i : Instr). got i (linesOf (drop at′ text)) n′)
             (s .holds ∙ ap (λ (x : Operation). instrFrom (operationCode x) (ns .count) (nineOf ns)) eo
-            ∙ stored-rule ns k ((past t k ns at′ n′ e (told .onward)) .fitting) (subst T (sym (told .told .1 k ns at′ n′ e)) tt))
-            ∙ sym (ap (lineRead text instruction) e) ∙ told .told .0;
+            ∙ stored-rule ns k ((past t k ns at′ n′ e (told .onward)) .fitting) (subst T (sym (told .stands k ns at′ n′ e)) tt))
+            ∙ sym (ap (lineRead text instruction) e) ∙ told .told;
         only = s .only;
         advanced =
             (let z : at ≤ at′ = omega (arith, (past t k ns at′ n′ e (told .onward)) .later) in

@@ -9,7 +9,6 @@ ghost use Rattle.instr_reader.specs.Reads.{firstSix, lastFive, nineOf, S
 use lexer::Numbers;
 use line_reader::LineTaken;
 use line_reader::Progress;
-use line_reader::Wanted;
 use sheet_rules::Operation;
 use table::stores::put_number;
 use table::stores::put_operation;
@@ -60,7 +59,7 @@ fn read_instr(
     requires { ⌜ Room (now text) at line × (p < 1024) × (workSize ≤ length (now work)) ⌝ }
     ensures { λ r. ⌜ InstrRead (now (text .entry)) p forms filled at line (now (work .entry)) (now (work .exit)) r ⌝ }
 {
-    let read = line_reader::take_line(text, at, line, Wanted::Instruction { forms, filled });
+    let read = line_reader::take_instr(text, at, line, forms, filled);
     let LineTaken::Line {
         place,
         numbers,

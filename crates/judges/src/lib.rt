@@ -194,17 +194,11 @@ pub fn member_line(lowest: u32, place: Place, numbers: Numbers) -> LineJudged
     ensures { λ r. ⌜ ((earlier : List RowRule) (h : Heading) (before : List MemberRule) → Lowest before lowest → lineTold r (memberRest earlier h before place (listOf numbers)) ≡ memberLine earlier h before place (listOf numbers)) ⌝ }
     ensures named { λ r. ⌜ (r ≡ LineJudged.Good → samePlace place (PlaceRule.Member MemberKindRule.Method) ≡ true) ⌝ }
 {
-    let here = same_place(
-        place,
-        Place::Member {
-            kind: MemberKind::Method,
-        },
-    );
-    if !here {
+    let Place::Member { kind: _ } = place else {
         return LineJudged::Refused {
             reason: Reason::Malformed,
         };
-    }
+    };
     let name = numbers.n0;
     if 63 < name {
         return LineJudged::Refused {

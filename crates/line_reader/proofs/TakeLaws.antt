@@ -28,7 +28,7 @@ use Rattle.judges.specs.Told.{lineTold, rowTold, memberRest}
 use Rattle.judges.proofs.StrictLaws.{Strict, strict-count, strict-existing, strict-body, strict-row, strict-form, strict-member, strict-instr, one-torn, one-line, Taken, line-taken}
 use Rattle.line_reader.specs.declared.Wanted.{Wanted}
 use Rattle.line_reader.specs.declared.LineTaken.{LineTaken}
-use Rattle.line_reader.specs.Told.{Room, number, heading, instruction, Judges, settled, lineRead, lineAsked, Stands, Tells, Onward, LineTold}
+use Rattle.line_reader.specs.Told.{Room, number, heading, instruction, Judges, settled, lineRead, lineAsked, Stands, Tells, Onward, LineTold, InstrTold}
 
 no-line : (q : Reason) (l : ℕ) (k : Place) (ns : Numbers) (at n : ℕ) {A : Type 0} → LineTaken.Refused q l ≡ LineTaken.Line k ns at n → A
 no-line q l k ns at n e = clash (cc)
@@ -67,11 +67,17 @@ module _ (text : List ℕ) (at n : ℕ) where
     tells-torn (Wanted.Init keeps) = torn (existingLine Place.Init keeps) (strict-existing Place.Init keeps)
     tells-torn (Wanted.Body used) = torn (bodyLine Place.Body used) (strict-body Place.Body used)
     tells-torn (Wanted.Main used) = torn (bodyLine Place.Main used) (strict-body Place.Main used)
-    tells-torn (Wanted.Instruction forms filled) =
-        (torn (instrLine forms filled) (strict-instr forms filled), λ k ns at′ n′ c. no-line Malformed n k ns at′ n′ c)
 
     pub told-torn : (wanted : Wanted) → LineTold wanted text at n (LineTaken.Refused Malformed n)
     told-torn wanted = record { told = tells-torn wanted; onward = Onward.stopped }
+
+    pub instr-torn : (forms filled : ℕ) → InstrTold forms filled text at n (LineTaken.Refused Malformed n)
+    instr-torn forms filled =
+        record {
+          told = torn (instrLine forms filled) (strict-instr forms filled);
+          stands = λ k ns at′ n′ c. no-line Malformed n k ns at′ n′ c;
+          onward = Onward.stopped;
+        }
 
   -- a line, judged
   module _ (k : Place) (ns : Numbers) (next : ℕ) (e : lineAt text at ≡ LineRead.Line k ns next) where
@@ -113,22 +119,26 @@ module _ (text : List ℕ) (at n : ℕ) where
     tells-line (Wanted.Init keeps) j t = judged (existingLine Place.Init keeps) number j t
     tells-line (Wanted.Body used) j t = judged (bodyLine Place.Body used) number j t
     tells-line (Wanted.Main used) j t = judged (bodyLine Place.Main used) number j t
-    tells-line (Wanted.Instruction forms filled) j t = (
-      judged (instrLine forms filled) instruction j t,
-      here (Place.Instruction Operation.New) j
-          (λ c. good-place forms filled k (listOf ns) (instruction k ns) (sym t ∙ ap (λ x. lineTold x (good (instruction k ns))) c)),
-    )
+
+    onward : Room text at n → (j : LineJudged) → Onward text at n (settled j k ns next n)
+    onward room LineJudged.Good =
+        let taken : Taken text at k ns next = line-taken text at k ns next e in
+        let l : n + 1 ≤ next + 1 = omega (arith, room .lines, taken .later) in
+        Onward.moved (taken .later) (record { small = room .small; inside = taken .inside; lines = l }) (taken .fitting)
+    onward room (LineJudged.Refused q) = Onward.stopped
 
     pub told-line : Room text at n → (wanted : Wanted) (j : LineJudged) → Judges wanted k ns j → (p : LineTaken) → p ≡ settled j k ns next n
         → LineTold wanted text at n p
-    told-line room wanted j t p c =
-        subst (LineTold wanted text at n) (sym c) (record { told = tells-line wanted j t; onward = onward j })
-      where
-        taken : Taken text at k ns next
-        taken = line-taken text at k ns next e
+    told-line room wanted j t p c = subst (LineTold wanted text at n) (sym c) (record { told = tells-line wanted j t; onward = onward room j })
 
-        onward : (j : LineJudged) → Onward text at n (settled j k ns next n)
-        onward LineJudged.Good =
-            let l : n + 1 ≤ next + 1 = omega (arith, room .lines, taken .later) in
-            Onward.moved (taken .later) (record { small = room .small; inside = taken .inside; lines = l }) (taken .fitting)
-        onward (LineJudged.Refused q) = Onward.stopped
+    pub instr-line : Room text at n → (forms filled : ℕ) (j : LineJudged) → lineTold j (good (instruction k ns)) ≡ instrLine forms filled k (listOf ns)
+        → (p : LineTaken) → p ≡ settled j k ns next n → InstrTold forms filled text at n p
+    instr-line room forms filled j t p c =
+        subst (InstrTold forms filled text at n) (sym c)
+        (record {
+          told = judged (instrLine forms filled) instruction j t;
+          stands =
+              here (Place.Instruction Operation.New) j
+              (λ d. good-place forms filled k (listOf ns) (instruction k ns) (sym t ∙ ap (λ x. lineTold x (good (instruction k ns))) d));
+          onward = onward room j;
+        })

@@ -55,7 +55,6 @@ Judges (Wanted.Keep rows) k ns j = lineTold j (good (number k ns)) ≡ existingL
 Judges (Wanted.Init keeps) k ns j = lineTold j (good (number k ns)) ≡ existingLine Place.Init keeps k (listOf ns)
 Judges (Wanted.Body used) k ns j = lineTold j (good (number k ns)) ≡ bodyLine Place.Body used k (listOf ns)
 Judges (Wanted.Main used) k ns j = lineTold j (good (number k ns)) ≡ bodyLine Place.Main used k (listOf ns)
-Judges (Wanted.Instruction forms filled) k ns j = lineTold j (good (instruction k ns)) ≡ instrLine forms filled k (listOf ns)
 
 -- a judged line, with the place after it
 abbrev pub settled : LineJudged → Place → Numbers → ℕ → ℕ → LineTaken
@@ -92,8 +91,6 @@ Tells (Wanted.Keep rows) text at n p = lineRead text number p ≡ one (existingL
 Tells (Wanted.Init keeps) text at n p = lineRead text number p ≡ one (existingLine Place.Init keeps) (linesOf (drop at text)) n
 Tells (Wanted.Body used) text at n p = lineRead text number p ≡ one (bodyLine Place.Body used) (linesOf (drop at text)) n
 Tells (Wanted.Main used) text at n p = lineRead text number p ≡ one (bodyLine Place.Main used) (linesOf (drop at text)) n
-Tells (Wanted.Instruction forms filled) text at n p =
-    (lineRead text instruction p ≡ one (instrLine forms filled) (linesOf (drop at text)) n) × Stands (Place.Instruction Operation.New) p
 
 -- the place after a line is one of the text, and further on; its numbers are as many as its key takes
 pub data Onward (text : List ℕ) (at n : ℕ) : LineTaken → Type 0 where
@@ -103,6 +100,12 @@ pub data Onward (text : List ℕ) (at n : ℕ) : LineTaken → Type 0 where
 -- the line at a place of a text, where one is wanted, was read
 pub record LineTold (wanted : Wanted) (text : List ℕ) (at n : ℕ) (p : LineTaken) : Type 0 where
   pub told : Tells wanted text at n p
+  pub onward : Onward text at n p
+
+-- the instruction line at a place of a text was read
+pub record InstrTold (forms filled : ℕ) (text : List ℕ) (at n : ℕ) (p : LineTaken) : Type 0 where
+  pub told : lineRead text instruction p ≡ one (instrLine forms filled) (linesOf (drop at text)) n
+  pub stands : Stands (Place.Instruction Operation.New) p
   pub onward : Onward text at n p
 
 -- some lines, read, with the value that they left

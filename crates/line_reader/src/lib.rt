@@ -2,14 +2,14 @@
 ghost use mathlib.Core.Path.{_≡_};
 ghost use Prim.Native.Nat.{_<_};
 ghost use Rattle.lexer.specs.Scan.{Fitting};
-ghost use Rattle.line_reader.specs.Told.{Room, Judges, settled, stoppedBy, LineTold};
+ghost use Rattle.line_reader.specs.Told.{Room, Judges, settled, stoppedBy, LineTold, InstrTold};
 use judges::LineJudged;
 use lexer::LineRead;
 use lexer::Numbers;
 use sheet_rules::Place;
 use sheet_rules::Reason;
 
-// The line that a reader waits for: where it stands, and what its numbers are judged by.
+// The line that a reader waits for, if no instruction: where it stands, and what its numbers are judged by.
 pub enum Wanted {
     Types,
     Row,
@@ -20,7 +20,6 @@ pub enum Wanted {
     Init { keeps: u16 },
     Body { used: u16 },
     Main { used: u16 },
-    Instruction { forms: u16, filled: u16 },
 }
 
 // A line of the wanted place, judged: its numbers and the place after it, or the refusal.
@@ -43,7 +42,7 @@ pub enum Progress {
     Refused { reason: Reason, line: u32 },
 }
 
-// The judgement of a line where another, or this one, is wanted.
+// Judges a line by what is wanted there.
 fn judge(wanted: Wanted, place: Place, numbers: Numbers) -> LineJudged
     requires { ⌜ Fitting place numbers ⌝ }
     ensures { λ r. ⌜ Judges wanted place numbers r ⌝ }
@@ -58,9 +57,6 @@ fn judge(wanted: Wanted, place: Place, numbers: Numbers) -> LineJudged
         Wanted::Init { keeps } => judges::existing_line(Place::Init, keeps, place, numbers),
         Wanted::Body { used } => judges::body_line(Place::Body, used, place, numbers),
         Wanted::Main { used } => judges::body_line(Place::Main, used, place, numbers),
-        Wanted::Instruction { forms, filled } => {
-            instr_judge::instr_line(forms, filled, place, numbers)
-        }
     }
 }
 
@@ -97,6 +93,27 @@ pub fn take_line(text: &[u8], at: usize, line: u32, wanted: Wanted) -> LineTaken
         };
     };
     let judged = judge(wanted, place, numbers);
+    settle(judged, place, numbers, next, line)
+}
+
+// An instruction line at a place of the text, in a sheet of so many forms, with so many slots filled. Most lines are instructions:
+// they have a reader of their own, which makes no choice.
+pub fn take_instr(text: &[u8], at: usize, line: u32, forms: u16, filled: u16) -> LineTaken
+    requires { ⌜ Room (now text) at line ⌝ }
+    ensures { λ r. ⌜ InstrTold forms filled (now (text .entry)) at line r ⌝ }
+{
+    let LineRead::Line {
+        place,
+        numbers,
+        next,
+    } = lexer::read_line(text, at)
+    else {
+        return LineTaken::Refused {
+            reason: Reason::Malformed,
+            line,
+        };
+    };
+    let judged = instr_judge::instr_line(forms, filled, place, numbers);
     settle(judged, place, numbers, next, line)
 }
 
