@@ -96,8 +96,8 @@ pub fn take_line(text: &[u8], at: usize, line: u32, wanted: Wanted) -> LineTaken
     settle(judged, place, numbers, next, line)
 }
 
-// An instruction line at a place of the text, in a sheet of so many forms, with so many slots filled. Most lines are instructions:
-// they have a reader of their own, which makes no choice.
+// An instruction line at a place of the text, in a sheet of so many forms, with so many slots filled. Its judge is the longest: it has
+// a reader of its own.
 pub fn take_instr(text: &[u8], at: usize, line: u32, forms: u16, filled: u16) -> LineTaken
     requires { ⌜ Room (now text) at line ⌝ }
     ensures { λ r. ⌜ InstrTold forms filled (now (text .entry)) at line r ⌝ }
