@@ -46,7 +46,7 @@ pub fn verdict(text: &[u8], work: &mut Work) -> Result<(), Refusal> {
     Refusal::check(given.refusal, given.line)
 }
 
-/// The run of the text's sheet for at most so many steps.
+/// The run of the text's sheet for at most `budget` steps.
 pub fn run(text: &[u8], budget: u32, work: &mut Work) -> Result<Run, Refusal> {
     let given = raw::run(text, budget, &mut work.0[..]);
     Refusal::check(given.refusal, given.line)?;

@@ -131,7 +131,7 @@ pub fn verdict(text: &[u8], work: &mut [u16]) -> VerdictResult {
     unsafe { lexondar_verdict(text.as_ptr(), text.len(), work.as_mut_ptr(), work.len()) }
 }
 
-/// The run of the text's sheet, for at most so many steps.
+/// The run of the text's sheet, for at most `budget` steps.
 pub fn run(text: &[u8], budget: u32, work: &mut [u16]) -> RunResult {
     // SAFETY: as above.
     unsafe {
@@ -169,7 +169,7 @@ pub fn authority(
     }
 }
 
-/// The run of the text's sheet, for at most so many steps, and an entry for
+/// The run of the text's sheet, for at most `budget` steps, and an entry for
 /// main and for every resource object, ascending, at the start of the result
 /// buffer: the holder, how many it holds, and which.
 pub fn report(text: &[u8], budget: u32, work: &mut [u16], result: &mut [u16]) -> ReportResult {

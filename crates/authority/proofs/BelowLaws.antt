@@ -9,14 +9,14 @@ use lib.ListN.{length}
 use Rattle.sheet_rules.specs.Sheet.{Sheet}
 use Rattle.sheet_rules.specs.WellFormed.{WellFormed}
 use Rattle.authority_rules.specs.Authority.{frameHolder, holderOf, slotsIf, slotsOf}
-use Rattle.table.specs.Layout.{objectAddress}
+use Rattle.table.specs.Layout.{objectAddress, slotAddress}
 use Rattle.table.specs.View.{sheetIn}
 use Rattle.table.proofs.ViewLaws.{SameTable, sheetIn-same}
 use Rattle.machine_state.specs.declared.Top.{Top}
-use Rattle.machine_state.specs.Held.{slotAddress, objectsIn, slotsIn, ownFrom, topIn, belowIn}
+use Rattle.machine_state.specs.Held.{objectsIn, slotsIn, ownFrom, topIn, belowIn}
 use Rattle.machine_state.proofs.HeldLaws.{objects-same, slots-same, top-same}
-use Rattle.marks.specs.Marked.{MarksOnly, Added}
-use Rattle.marks.proofs.MarkLaws.{added-none, added-before}
+use Rattle.authority_marks.specs.Marked.{MarksOnly, Added}
+use Rattle.authority_marks.proofs.MarkLaws.{added-none, added-before}
 use Rattle.authority.specs.Laid.{Stored, Slots, FrameMarked, Below, BelowMarked}
 
 -- what marking leaves as it is

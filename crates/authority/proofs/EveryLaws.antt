@@ -1,4 +1,4 @@
--- Marking leaves a run as it is; entries written one holder after another. Assumes nothing.
+-- Entries written one holder after another. Assumes nothing.
 use Prim.Native.Nat.{ℕ, suc, pred, _+_, _-_, _*_, _≤_, _<_}
 use native.Mathlib.Omega.{arith}
 use native.Mathlib.Numerals.{add-one}
@@ -12,58 +12,30 @@ use lib.Seq.{length-take-le}
 use borrow.Rule.Slice.PartMut.{putMid}
 use Rattle.lists.proofs.Tests.{or-cases, or-right, true→T}
 use Rattle.sheet_rules.specs.Sheet.{Sheet}
-use Rattle.type_rules.specs.Typed.{Typed}
 use Rattle.machine_rules.specs.declared.Tally.{Tally}
 use Rattle.machine_rules.specs.Sound.{Sound}
-use Rattle.authority_rules.specs.Authority.{mainHolder, isResource, isHolder, holds, addIf, passing, authority}
+use Rattle.lists.specs.Passing.{addIf, passing}
+use Rattle.authority_rules.specs.Authority.{mainHolder, isResource, isHolder, holds, authority}
 use Rattle.authority_rules.specs.Report.{Holding, holdingOf, holders}
 use Rattle.authority_rules.proofs.AuthorityLaws.{resource-below}
 use Rattle.table.specs.Layout.{frameAddress}
 use Rattle.table.specs.View.{sheetIn}
 use Rattle.table.proofs.ViewLaws.{only-refl, only-trans}
-use Rattle.table.proofs.PoolLaws.{placed-same}
-use Rattle.member_places.proofs.LocatedLaws.{located-same}
+use Rattle.accepted.proofs.AcceptedLaws.{accepted-same}
+use Rattle.machine_places.proofs.LocatedLaws.{located-same}
 use Rattle.machine_state.specs.declared.Top.{Top}
 use Rattle.machine_state.proofs.HeldLaws.{frame-same, below-same, objects-count}
 use Rattle.machine_steps.specs.Running.{Running}
 use Rattle.machine_steps.proofs.FacingLaws.{frames-few, objects-few}
-use Rattle.marks.specs.Marked.{MarksOnly}
+use Rattle.authority_marks.specs.Marked.{MarksOnly}
 use Rattle.lists.specs.PutAt.{begun, putAt}
 use Rattle.lists.proofs.PutAtLaws.{put-put}
 use Rattle.authority.specs.Reach.{AuthorityWritten}
 use Rattle.authority.specs.Every.{entryOf, entries, everySize, heldState, EntriesWritten, ifResource, EveryWritten}
-use Rattle.authority.proofs.BelowLaws.{marks-sheet, marks-objects, marks-stored}
-use Rattle.authority.proofs.ReachLaws.{run-stored}
-use Rattle.authority.proofs.WrittenLaws.{passing-few, passing-snoc}
+use Rattle.authority.proofs.BelowLaws.{marks-sheet, marks-objects}
+use Rattle.authority.proofs.MarkedRunLaws.{marks-state, marks-running}
+use Rattle.lists.proofs.PassingLaws.{passing-few, passing-snoc}
 use Rattle.authority.proofs.PutLaws.{entry-put, entries-append, entries-one, entries-few}
-
--- A RUN AFTER MARKING
-
-module _ (w w′ : List ℕ) (o : MarksOnly w w′) (t : Top) (k : Tally) (r : Running w t k) where
-  pub marks-state : heldState w′ t k ≡ heldState w t k
-  marks-state =
-      let few : pred (k .frames) < 64 = omega (arith, frames-few w t k r, r .ending .frames) in
-      λ i. record {
-        objects = marks-objects w w′ o (k .objects) i;
-        top = frame-same w w′ (λ j h. o .below j (omega arith)) (pred (k .frames)) t (λ j l u. o .below j (omega (arith, few))) i;
-        below = below-same w w′ (λ j h. o .below j (omega arith)) (pred (k .frames)) (omega (arith, few)) (λ j l u. o .below j (omega (arith, few))) i;
-      }
-
-  pub marks-running : Running w′ t k
-  marks-running =
-      record {
-        whole = (marks-stored w w′ o (k .objects) (run-stored w t k r)) .whole;
-        typed = subst Typed (sym (marks-sheet w w′ o)) (r .typed);
-        placed = placed-same w w′ (λ i h. o .below i (omega arith)) (r .placed);
-        located = located-same w w′ (λ i h. o .below i (omega arith)) (r .located);
-        sound = subst (λ (s : Sheet). Sound s (heldState w′ t k)) (sym (marks-sheet w w′ o)) (subst (Sound (sheetIn w)) (sym marks-state) (r .sound));
-        ending =
-            record {
-              frames = r .ending .frames;
-              top = r .ending .top;
-              below = λ f h. (let few = frames-few w t k r in subst (λ (x : ℕ). x ≤ 1024) (sym (o .below (frameAddress f + 3) (omega arith))) (r .ending .below f h));
-            };
-      }
 
 -- WHAT A HOLDER'S ENTRY TAKES
 

@@ -12,11 +12,11 @@ use Rattle.sheet_rules.specs.declared.Kind.{Kind}
 use Rattle.sheet_rules.specs.Sheet.{formAt, rowAt, rowOfForm}
 use Rattle.machine_rules.specs.State.{Object, noObject, objectAt}
 use Rattle.authority_rules.specs.Authority.{mainHolder, isResourceKind, isResource, frameHolder, slotsIf}
-use Rattle.table.specs.Layout.{objectAddress, stateEnd, workSize}
+use Rattle.table.specs.Layout.{objectAddress, stateEnd, workSize, slotAddress}
 use Rattle.table.specs.View.{cell, sheetIn}
-use Rattle.machine_state.specs.Held.{slotAddress, objectIn, objectsIn, slotsIn, ownFrom}
-use Rattle.marks.specs.Marked.{Added, numbersFrom, Small}
-use Rattle.marks.proofs.MarkLaws.{added-none}
+use Rattle.machine_state.specs.Held.{objectIn, objectsIn, slotsIn, ownFrom}
+use Rattle.authority_marks.specs.Marked.{Added, numbersFrom, Small}
+use Rattle.authority_marks.proofs.MarkLaws.{added-none}
 use Rattle.authority.specs.Laid.{Stored, Slots, FrameMarked}
 
 module _ (w : List ℕ) (n : ℕ) (s : Stored w n) where

@@ -13,14 +13,14 @@ use Rattle.sheet_rules.specs.Sheet.{noMember, rowAt, formAt}
 use Rattle.machine_rules.specs.State.{Object, noObject, objectAt}
 use Rattle.machine_rules.specs.Sound.{fieldRows}
 use Rattle.authority_rules.specs.Authority.{ownValues}
-use Rattle.table.specs.Layout.{objectAddress, stateEnd, workSize}
+use Rattle.table.specs.Layout.{objectAddress, stateEnd, workSize, keptAddress, fieldAddress}
 use Rattle.table.specs.View.{cell, memberIn, membersIn, sheetIn}
 use Rattle.table.specs.Whole.{Whole}
 use Rattle.table.proofs.SheetLaws.{member-row-small, member-small, member-there}
-use Rattle.member_places.specs.Placed.{fieldsAfter}
-use Rattle.machine_state.specs.Held.{keptAddress, fieldAddress, keptCount, fieldCount, objectIn, objectsIn}
-use Rattle.marks.specs.Marked.{Added, numbersFrom, Small}
-use Rattle.marks.proofs.MarkLaws.{added-after}
+use Rattle.machine_places.specs.Placed.{fieldsAfter}
+use Rattle.machine_state.specs.Held.{keptCount, fieldCount, objectIn, objectsIn}
+use Rattle.authority_marks.specs.Marked.{Added, numbersFrom, Small}
+use Rattle.authority_marks.proofs.MarkLaws.{added-after}
 use Rattle.authority.specs.Laid.{Stored, OwnSmall}
 
 -- HOW MANY FIELDS
@@ -33,7 +33,7 @@ fields-snoc (Method k a r ∷ ms) m = fields-snoc ms m
 fields-snoc (Field k r ∷ ms) (Method j a q) = ap suc (fields-snoc ms (Method j a q))
 fields-snoc (Field k r ∷ ms) (Field j q) = let e = fields-snoc ms (Field j q) in omega arith
 
--- the loop over a row's members has so many fields in hand
+-- the loop over a row's members has counted `fields` fields
 pub record Counting (w : List ℕ) (row fields j : ℕ) : Type 0 where
   pub counted : fields ≡ length (fieldRows (membersIn w row j))
   pub few : fields ≤ j

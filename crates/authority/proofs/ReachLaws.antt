@@ -17,24 +17,27 @@ use Rattle.sheet_rules.specs.Sheet.{Sheet}
 use Rattle.machine_rules.specs.declared.Tally.{Tally}
 use Rattle.machine_rules.specs.State.{Object, State, objectAt}
 use Rattle.machine_rules.proofs.BoundsLaws.{BoundedObject, frame-bounded, object-bounded}
-use Rattle.authority_rules.specs.Authority.{isResource, isHolder, frameHolder, holderOf, slotsIf, slotsOf, ownValues, reached, contains, holds, passing, authority}
+use Rattle.lists.specs.Contains.{contains}
+use Rattle.lists.specs.Passing.{passing}
+use Rattle.authority_rules.specs.Authority.{isResource, isHolder, frameHolder, holderOf, slotsIf, slotsOf, ownValues, reached, holds, authority}
 use Rattle.authority_rules.proofs.HoldingLaws.{resource-made}
-use Rattle.table.specs.Layout.{objectAddress}
+use Rattle.table.specs.Layout.{objectAddress, keptAddress, fieldAddress, slotAddress}
 use Rattle.table.specs.View.{cell, sheetIn}
 use Rattle.machine_state.specs.declared.Top.{Top}
-use Rattle.machine_state.specs.Held.{keptAddress, fieldAddress, slotAddress, keptCount, fieldCount, objectIn, objectsIn, slotsIn, ownFrom, frameFrom, topIn, belowIn, stateIn}
+use Rattle.machine_state.specs.Held.{keptCount, fieldCount, objectIn, objectsIn, slotsIn, ownFrom, frameFrom, topIn, belowIn, stateIn}
 use Rattle.table.proofs.ViewLaws.{only-trans}
-use Rattle.machine_state.proofs.HeldLaws.{below-same, objects-count, slots-count}
+use Rattle.machine_state.proofs.HeldLaws.{objects-count, slots-count}
 use Rattle.machine_steps.specs.Running.{Running}
 use Rattle.machine_steps.proofs.FacingLaws.{frames-few, objects-few, object-is}
 use Rattle.machine_steps.proofs.OwnLaws.{form-there}
-use Rattle.marks.specs.Marked.{MarksOnly, isMarked, MarksCleared, Added}
-use Rattle.marks.proofs.MarkLaws.{added-before}
+use Rattle.authority_marks.specs.Marked.{MarksOnly, MarksCleared, Added}
+use Rattle.authority_marks.proofs.MarkLaws.{added-before}
 use Rattle.lists.specs.PutAt.{begun}
 use Rattle.authority.specs.Laid.{Stored, Slots, FrameMarked, Below, BelowMarked, OwnSmall, isReached, Written}
 use Rattle.authority.specs.Reach.{ReachMarked, AuthorityWritten}
-use Rattle.authority.proofs.BelowLaws.{marks-sheet, marks-objects, marks-slots-in, marks-top, marks-stored, marks-slots}
-use Rattle.authority.proofs.WrittenLaws.{passing-same}
+use Rattle.authority.proofs.BelowLaws.{marks-sheet, marks-objects, marks-slots-in, marks-stored, marks-slots}
+use Rattle.authority.proofs.MarkedRunLaws.{marks-state}
+use Rattle.lists.proofs.PassingLaws.{passing-same}
 
 -- what a running state has in range
 
@@ -58,11 +61,11 @@ module _ (w : List ℕ) (t : Top) (k : Tally) (r : Running w t k) (o : ℕ) (h :
 
 module _ (w : List ℕ) (t : Top) (k : Tally) (r : Running w t k) where
   pub run-stored : Stored w (k .objects)
-  run-stored = record { whole = r .whole; few = objects-few w t k r; forms = λ o h. form-there w t k r o h }
+  run-stored = record { whole = r .accepted .whole; few = objects-few w t k r; forms = λ o h. form-there w t k r o h }
 
   frame-slots : (f : ℕ) (x : Top) → In (frameFrom w f x) (frameFrom w (pred (k .frames)) t ∷ belowIn w (pred (k .frames))) → Slots w f (x .filled)
   frame-slots f x i =
-      let b = frame-bounded (sheetIn w) (r .whole .sheet) (stateIn (sheetIn w) w t k) (r .sound) (frameFrom w f x) i in
+      let b = frame-bounded (sheetIn w) (r .accepted .whole .sheet) (stateIn (sheetIn w) w t k) (r .sound) (frameFrom w f x) i in
       record {
         few = omega (arith, b .slots, slots-count w f (x .filled));
         small = λ v h.
@@ -85,7 +88,7 @@ module _ (w : List ℕ) (t : Top) (k : Tally) (r : Running w t k) where
       }
     where
       bounds : BoundedObject (sheetIn w) (objectsIn (sheetIn w) w (k .objects)) (objectAt (objectsIn (sheetIn w) w (k .objects)) o)
-      bounds = object-bounded (sheetIn w) (r .whole .sheet) (stateIn (sheetIn w) w t k) (r .sound) o (omega (arith, objects-count (sheetIn w) w (k .objects)))
+      bounds = object-bounded (sheetIn w) (r .accepted .whole .sheet) (stateIn (sheetIn w) w t k) (r .sound) o (omega (arith, objects-count (sheetIn w) w (k .objects)))
 
       kept-are : (objectAt (objectsIn (sheetIn w) w (k .objects)) o) .kept ≡ tab (λ j. cell w (keptAddress o j)) (keptCount (sheetIn w) (cell w (objectAddress o)))
       kept-are = kept-of w t k r o h
@@ -125,20 +128,20 @@ unfolding reached
 reached-object s σ h d e =
     (λ i. cond (ne-eqb h 256 d i) (slotsOf s (σ .objects) h (σ .top ∷ σ .below)) (cond (e i) (ownValues h (objectAt (σ .objects) h) ++ slotsOf s (σ .objects) h (σ .top ∷ σ .below)) []))
 
-module _ (w : List ℕ) (t : Top) (k : Tally) (r : Running w t k) (h d : ℕ) (ed : d ≡ pred (k .frames)) (w₁ : List ℕ) (c : MarksCleared w w₁) where
+module _ {w : List ℕ} {t : Top} {k : Tally} (r : Running w t k) (h : ℕ) {d : ℕ} (ed : d ≡ pred (k .frames)) where
+  -- the slots that count of all frames, the top one first
+  all-slots : List ℕ
+  all-slots = slotsOf (sheetIn w) (objectsIn (sheetIn w) w (k .objects)) h (frameFrom w (pred (k .frames)) t ∷ belowIn w (pred (k .frames)))
+
   d-small : d < 64
   d-small = omega (arith, frames-few w t k r, r .ending .frames)
 
-  pub reach-below : Stored w₁ (k .objects) × (d < 64) × Below w₁ d
-  reach-below = (
-    marks-stored w w₁ (c .only) (k .objects) (run-stored w t k r),
-    d-small,
-    λ f l. subst (λ (x : Top). Slots w₁ f (x .filled)) (sym (marks-top w w₁ (c .only) f)) (marks-slots w w₁ (c .only) f ((topIn w f) .filled) (run-below w t k r f (omega arith))),
-  )
+  pub reach-below : Stored w (k .objects) × (d < 64) × Below w d
+  reach-below = (run-stored w t k r, d-small, λ f l. run-below w t k r f (omega arith))
 
-  module _ (w₂ : List ℕ) (b : ℕ) (m : BelowMarked w₁ (k .objects) h d w₂ b) where
+  module _ {w₂ : List ℕ} {b : ℕ} (m : BelowMarked w (k .objects) h d w₂ b) where
     only₂ : MarksOnly w w₂
-    only₂ = only-trans (c .only) (m .marked .only)
+    only₂ = m .marked .only
 
     pub reach-frame : Stored w₂ (k .objects) × (d < 64) × Slots w₂ d (t .filled)
     reach-frame = (
@@ -147,40 +150,28 @@ module _ (w : List ℕ) (t : Top) (k : Tally) (r : Running w t k) (h d : ℕ) (e
       marks-slots w w₂ only₂ d (t .filled) (subst (λ (x : ℕ). Slots w x (t .filled)) (sym ed) (run-top w t k r)),
     )
 
-    below-are : belowIn w₁ d ≡ belowIn w (pred (k .frames))
-    below-are = below-same w w₁ (λ i l. c .only .below i (omega arith)) d (omega (arith, d-small)) (λ i l u. c .only .below i (omega (arith, d-small))) ∙ ap (belowIn w) ed
-
-    b-is : b ≡ holderOf (sheetIn w) (objectsIn (sheetIn w) w (k .objects)) (belowIn w (pred (k .frames)))
-    b-is = m .holder ∙ (λ i. holderOf (marks-sheet w w₁ (c .only) i) (marks-objects w w₁ (c .only) (k .objects) i) (below-are i))
-
-    module _ (w₃ : List ℕ) (q : ℕ) (f : FrameMarked w₂ (k .objects) d (t .own) (t .filled) b h w₃ q) where
+    module _ {w₃ : List ℕ} {q : ℕ} (f : FrameMarked w₂ (k .objects) d (t .own) (t .filled) b h w₃ q) where
       only₃ : MarksOnly w w₃
       only₃ = only-trans only₂ (f .marked .only)
 
       q-is : q ≡ holderOf (sheetIn w) (objectsIn (sheetIn w) w (k .objects)) (frameFrom w (pred (k .frames)) t ∷ belowIn w (pred (k .frames)))
       q-is =
           f .holder
-          ∙ (λ i. frameHolder (marks-sheet w w₂ only₂ i) (marks-objects w w₂ only₂ (k .objects) i) (ownFrom (t .own)) (b-is i))
+          ∙ (λ i. frameHolder (marks-sheet w w₂ only₂ i) (marks-objects w w₂ only₂ (k .objects) i) (ownFrom (t .own))
+          ((m .holder ∙ ap (λ (x : ℕ). holderOf (sheetIn w) (objectsIn (sheetIn w) w (k .objects)) (belowIn w x)) ed) i))
           ∙ top-holder w t k
 
-      slots-added : Added w₁ (slotsOf (sheetIn w) (objectsIn (sheetIn w) w (k .objects)) h (frameFrom w (pred (k .frames)) t ∷ belowIn w (pred (k .frames)))) w₃
+      slots-added : Added w all-slots w₃
+      unfolding all-slots
       slots-added =
-          subst (λ (xs : List ℕ). Added w₁ xs w₃)
-          ((λ i. slotsIf (eqb q h) ((marks-slots-in w w₂ only₂ d (t .filled) ∙ ap (λ (x : ℕ). slotsIn w x (t .filled)) ed) i) ++ slotsOf (marks-sheet w w₁ (c .only) i) (marks-objects w w₁ (c .only) (k .objects) i) h (below-are i))
+          subst (λ (xs : List ℕ). Added w xs w₃)
+          ((λ i. slotsIf (eqb q h) ((marks-slots-in w w₂ only₂ d (t .filled) ∙ ap (λ (x : ℕ). slotsIn w x (t .filled)) ed) i) ++ slotsOf (sheetIn w) (objectsIn (sheetIn w) w (k .objects)) h (belowIn w (ed i)))
           ∙ frames-slots w t k h q q-is)
-          (added-before w₁ w₂ w₃ (slotsOf (sheetIn w₁) (objectsIn (sheetIn w₁) w₁ (k .objects)) h (belowIn w₁ d)) (slotsIf (eqb q h) (slotsIn w₂ d (t .filled))) (m .marked) (f .marked))
+          (added-before w w₂ w₃ (slotsOf (sheetIn w) (objectsIn (sheetIn w) w (k .objects)) h (belowIn w d)) (slotsIf (eqb q h) (slotsIn w₂ d (t .filled))) (m .marked) (f .marked))
 
-      told : (xs : List ℕ) (w₄ : List ℕ) → Added w₁ xs w₄ → (x : ℕ) → x < 256 → isMarked w₄ x ≡ contains xs x
-      told xs w₄ a x l = a .told x l ∙ ap (λ (y : Bool). y || contains xs x) (c .told x l)
-
-      pub reach-main : h ≡ 256 → ReachMarked w t k h w₃
-      reach-main e =
-          record {
-            only = only₃;
-            told = λ x l.
-                told (slotsOf (sheetIn w) (objectsIn (sheetIn w) w (k .objects)) h (frameFrom w (pred (k .frames)) t ∷ belowIn w (pred (k .frames)))) w₃ slots-added x l
-                ∙ ap (λ (xs : List ℕ). contains xs x) (sym (reached-main (sheetIn w) (stateIn (sheetIn w) w t k) h e));
-          }
+      pub reach-main : h ≡ 256 → Added w (reached (sheetIn w) (stateIn (sheetIn w) w t k) h) w₃
+      unfolding all-slots
+      reach-main e = subst (λ (xs : List ℕ). Added w xs w₃) (sym (reached-main (sheetIn w) (stateIn (sheetIn w) w t k) h e)) slots-added
 
       module _ (holder : T (isHolder (sheetIn w) (stateIn (sheetIn w) w t k) h)) (other : h ≡ 256 → ⊥) where
         resource : T (isResource (sheetIn w) (objectsIn (sheetIn w) w (k .objects)) h)
@@ -201,21 +192,27 @@ module _ (w : List ℕ) (t : Top) (k : Tally) (r : Running w t k) (h d : ℕ) (e
           },
         )
 
-        pub reach-object : (w₄ : List ℕ) → Added w₃ (ownValues h (objectAt (objectsIn (sheetIn w₃) w₃ (k .objects)) h)) w₄ → ReachMarked w t k h w₄
-        reach-object w₄ a =
-            let all : Added w₁ (ownValues h (objectAt (objectsIn (sheetIn w₃) w₃ (k .objects)) h) ++ slotsOf (sheetIn w) (objectsIn (sheetIn w) w (k .objects)) h (frameFrom w (pred (k .frames)) t ∷ belowIn w (pred (k .frames)))) w₄ =
-            added-before w₁ w₃ w₄ (slotsOf (sheetIn w) (objectsIn (sheetIn w) w (k .objects)) h (frameFrom w (pred (k .frames)) t ∷ belowIn w (pred (k .frames)))) (ownValues h (objectAt (objectsIn (sheetIn w₃) w₃ (k .objects)) h)) slots-added a in
-            record {
-              only = only-trans only₃ (a .only);
-              told = λ x l.
-                  told (ownValues h (objectAt (objectsIn (sheetIn w₃) w₃ (k .objects)) h) ++ slotsOf (sheetIn w) (objectsIn (sheetIn w) w (k .objects)) h (frameFrom w (pred (k .frames)) t ∷ belowIn w (pred (k .frames)))) w₄ all x l
-                  ∙ ap (λ (os : List Object). contains (ownValues h (objectAt os h) ++ slotsOf (sheetIn w) (objectsIn (sheetIn w) w (k .objects)) h (frameFrom w (pred (k .frames)) t ∷ belowIn w (pred (k .frames)))) x) (marks-objects w w₃ only₃ (k .objects))
-                  ∙ ap (λ (xs : List ℕ). contains xs x) (sym (reached-object (sheetIn w) (stateIn (sheetIn w) w t k) h other (T→true (isResource (sheetIn w) (objectsIn (sheetIn w) w (k .objects)) h) resource)));
-            }
+        pub reach-object : {w₄ : List ℕ} → Added w₃ (ownValues h (objectAt (objectsIn (sheetIn w₃) w₃ (k .objects)) h)) w₄ → Added w (reached (sheetIn w) (stateIn (sheetIn w) w t k) h) w₄
+        unfolding all-slots
+        reach-object {w₄} a =
+            subst (λ (xs : List ℕ). Added w xs w₄)
+            (ap (λ (os : List Object). ownValues h (objectAt os h) ++ all-slots) (marks-objects w w₃ only₃ (k .objects))
+            ∙ sym (reached-object (sheetIn w) (stateIn (sheetIn w) w t k) h other (T→true (isResource (sheetIn w) (objectsIn (sheetIn w) w (k .objects)) h) resource)))
+            (added-before w w₃ w₄ all-slots (ownValues h (objectAt (objectsIn (sheetIn w₃) w₃ (k .objects)) h)) slots-added a)
+
+-- marks that were cleared, and what h reaches added to them
+pub reach-marked : {w w₁ w′ : List ℕ} {t : Top} {k : Tally} {h : ℕ} → Running w t k → MarksCleared w w₁ → Added w₁ (reached (sheetIn w₁) (stateIn (sheetIn w₁) w₁ t k) h) w′ → ReachMarked w t k h w′
+reach-marked {w} {w₁} {w′} {t} {k} {h} r c a =
+    record {
+      only = only-trans (c .only) (a .only);
+      told = λ b l.
+          a .told b l
+          ∙ (λ i. c .told b l i || contains (reached (marks-sheet w w₁ (c .only) i) (marks-state w w₁ (c .only) t k r i) h) b);
+    }
 
 -- WHAT IS WRITTEN
 
-module _ (w : List ℕ) (t : Top) (k : Tally) (r : Running w t k) (h : ℕ) (w′ : List ℕ) (m : ReachMarked w t k h w′) where
+module _ {w : List ℕ} {t : Top} {k : Tally} (r : Running w t k) {h : ℕ} {w′ : List ℕ} (m : ReachMarked w t k h w′) where
   pub written-stored : Stored w′ (k .objects)
   written-stored = marks-stored w w′ (m .only) (k .objects) (run-stored w t k r)
 
@@ -231,8 +228,8 @@ module _ (w : List ℕ) (t : Top) (k : Tally) (r : Running w t k) (h : ℕ) (w�
       passing-same (isReached w′ (k .objects)) (holds (sheetIn w) (stateIn (sheetIn w) w t k) h) 0 (k .objects) (λ b l u. same-test b (omega arith))
       ∙ ap (passing (holds (sheetIn w) (stateIn (sheetIn w) w t k) h) 0) (sym (objects-count (sheetIn w) w (k .objects)))
 
-  pub authority-written : (result result′ : List ℕ) (c : ℕ) → Written (isReached w′ (k .objects)) (k .objects) result result′ c → AuthorityWritten w t k h w′ result result′ c
-  authority-written result result′ c x =
+  pub authority-written : {result result′ : List ℕ} {c : ℕ} → Written (isReached w′ (k .objects)) (k .objects) result result′ c → AuthorityWritten w t k h w′ result result′ c
+  authority-written {result} x =
       record {
         only = m .only;
         counted = x .counted ∙ ap length same-list;

@@ -1,5 +1,5 @@
 -- The numbers that pass a test, written one after another. Assumes nothing.
-use Prim.Native.Nat.{ℕ, zero, suc, _+_, _≤_, _<_}
+use Prim.Native.Nat.{ℕ, suc, _+_, _≤_, _<_}
 use native.Mathlib.Omega.{arith}
 use native.Mathlib.Numerals.{add-one}
 use mathlib.Core.Path.{_≡_, refl, sym, ap, _∙_, subst}
@@ -7,38 +7,10 @@ use mathlib.Core.Bool.{Bool, true, false, cond}
 use mathlib.Core.List.{List, [], _∷_, _++_, append-nil}
 use lib.ListN.{length, getD, set, drop, length-append, length-drop}
 use lib.Seq.{drop-cons, set-at, append-snoc}
-use Rattle.authority_rules.specs.Authority.{addIf, passing}
+use Rattle.lists.specs.Passing.{addIf, passing}
 use Rattle.lists.specs.PutAt.{begun}
+use Rattle.lists.proofs.PassingLaws.{passing-snoc, passing-few}
 use Rattle.authority.specs.Laid.{Kept, Written}
-
--- one number more, at the end
-pub passing-snoc : (test : ℕ → Bool) (i k : ℕ) → passing test i (suc k) ≡ passing test i k ++ addIf (test (i + k)) (i + k) []
-unfolding passing
-passing-snoc test i zero = let e : i ≡ i + 0 = omega arith in ap (λ (x : ℕ). addIf (test x) x []) e
-passing-snoc test i (suc k) =
-    ap (addIf (test i) i) (passing-snoc test (suc i) k)
-    ∙ go (test i)
-    ∙ ap (λ (x : ℕ). addIf (test i) i (passing test (suc i) k) ++ addIf (test x) x []) (omega arith)
-  where
-    go : (b : Bool) → addIf b i (passing test (suc i) k ++ addIf (test (suc i + k)) (suc i + k) []) ≡ addIf b i (passing test (suc i) k) ++ addIf (test (suc i + k)) (suc i + k) []
-    go true = refl
-    go false = refl
-
-pub passing-few : (test : ℕ → Bool) (i k : ℕ) → length (passing test i k) ≤ k
-unfolding passing
-passing-few test i zero = omega arith
-passing-few test i (suc k) = go (test i) (passing test (suc i) k) (passing-few test (suc i) k)
-  where
-    go : (b : Bool) (xs : List ℕ) → length xs ≤ k → length (addIf b i xs) ≤ suc k
-    go true xs h = omega arith
-    go false xs h = omega arith
-
--- two tests that agree
-pub passing-same : (p q : ℕ → Bool) (i k : ℕ) → ((b : ℕ) → i ≤ b → b < i + k → p b ≡ q b) → passing p i k ≡ passing q i k
-unfolding passing
-passing-same p q i zero h = refl
-passing-same p q i (suc k) h =
-    λ x. addIf (h i (omega arith) (omega arith) x) i (passing-same p q (suc i) k (λ b l u. h b (omega arith) (omega arith)) x)
 
 module _ (test : ℕ → Bool) (result : List ℕ) where
   pub written-start : Written test 0 result result 0

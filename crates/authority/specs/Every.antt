@@ -6,12 +6,13 @@ use mathlib.Core.List.{List, [], _∷_, _++_, map}
 use lib.ListN.{length}
 use Rattle.machine_rules.specs.declared.Tally.{Tally}
 use Rattle.machine_rules.specs.State.{State}
-use Rattle.authority_rules.specs.Authority.{isResource, addIf}
+use Rattle.lists.specs.Passing.{addIf}
+use Rattle.authority_rules.specs.Authority.{isResource}
 use Rattle.authority_rules.specs.Report.{Holding, holdingOf, holders}
 use Rattle.table.specs.View.{sheetIn}
 use Rattle.machine_state.specs.declared.Top.{Top}
 use Rattle.machine_state.specs.Held.{stateIn}
-use Rattle.marks.specs.Marked.{MarksOnly}
+use Rattle.authority_marks.specs.Marked.{MarksOnly}
 use Rattle.lists.specs.PutAt.{putAt}
 
 -- a holder's entry: its number, how many it holds, and which

@@ -7,12 +7,13 @@ use mathlib.Core.List.{List}
 use lib.Dec.{eqb}
 use lib.ListN.{length, set}
 use Rattle.lists.specs.PutAt.{begun}
-use Rattle.authority_rules.specs.Authority.{isResource, frameHolder, slotsIf, holderOf, slotsOf, passing}
-use Rattle.table.specs.Layout.{objectAddress}
+use Rattle.lists.specs.Passing.{passing}
+use Rattle.authority_rules.specs.Authority.{isResource, frameHolder, slotsIf, holderOf, slotsOf}
+use Rattle.table.specs.Layout.{objectAddress, keptAddress, fieldAddress, slotAddress}
 use Rattle.table.specs.View.{cell, sheetIn}
 use Rattle.table.specs.Whole.{Whole}
-use Rattle.machine_state.specs.Held.{keptAddress, fieldAddress, slotAddress, keptCount, fieldCount, objectsIn, slotsIn, ownFrom, topIn, belowIn}
-use Rattle.marks.specs.Marked.{isMarked, Added}
+use Rattle.machine_state.specs.Held.{keptCount, fieldCount, objectsIn, slotsIn, ownFrom, topIn, belowIn}
+use Rattle.authority_marks.specs.Marked.{isMarked, Added}
 
 -- n objects, of forms that are there
 pub record Stored (w : List ℕ) (n : ℕ) : Type 0 where

@@ -4,11 +4,12 @@ use mathlib.Core.Path.{_≡_}
 use mathlib.Core.List.{List}
 use lib.ListN.{length}
 use Rattle.machine_rules.specs.declared.Tally.{Tally}
-use Rattle.authority_rules.specs.Authority.{reached, contains, authority}
+use Rattle.lists.specs.Contains.{contains}
+use Rattle.authority_rules.specs.Authority.{reached, authority}
 use Rattle.table.specs.View.{sheetIn}
 use Rattle.machine_state.specs.declared.Top.{Top}
 use Rattle.machine_state.specs.Held.{stateIn}
-use Rattle.marks.specs.Marked.{MarksOnly, isMarked}
+use Rattle.authority_marks.specs.Marked.{MarksOnly, isMarked}
 use Rattle.lists.specs.PutAt.{begun}
 
 -- exactly what h can reach is marked, and nothing else is changed

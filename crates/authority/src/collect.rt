@@ -4,8 +4,8 @@ ghost use Prim.Native.Nat.{_<_, _≤_};
 ghost use lib.ListN.{length};
 ghost use Rattle.authority.specs.Laid.{Stored, isReached, Kept, Written};
 use crate::is_resource;
+use authority_marks::is_marked;
 use machine_state::narrow;
-use marks::is_marked;
 
 // Whether object b is a resource that is marked.
 fn is_reached(work: &[u16], n: usize, b: usize) -> bool
@@ -18,7 +18,7 @@ fn is_reached(work: &[u16], n: usize, b: usize) -> bool
     is_resource(work, n, b)
 }
 
-// Writes b after so many numbers, if it is a marked resource; answers how many there are then.
+// Writes b after `count` numbers, if it is a marked resource; answers how many there are then.
 fn write_one(work: &[u16], n: usize, b: usize, result: &mut [u16], count: usize) -> usize
     requires { ⌜ Stored (now work) n × (b < n) × (count ≤ b) × (256 ≤ length (now result)) ⌝ }
     ensures { λ r. ⌜ Kept (isReached (now (work .entry)) n b) b count (now (result .entry)) (now (result .exit)) r ⌝ }

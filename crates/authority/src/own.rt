@@ -6,17 +6,17 @@ ghost use Rattle.authority_rules.specs.Authority.{ownValues};
 ghost use Rattle.machine_rules.specs.State.{objectAt};
 ghost use Rattle.table.specs.View.{sheetIn};
 ghost use Rattle.table.specs.Whole.{Whole};
-ghost use Rattle.member_places.specs.Placed.{fieldsAfter};
+ghost use Rattle.machine_places.specs.Placed.{fieldsAfter};
 ghost use Rattle.machine_state.specs.Held.{objectsIn, fieldCount};
-ghost use Rattle.marks.specs.Marked.{Added};
+ghost use Rattle.authority_marks.specs.Marked.{Added};
 ghost use Rattle.authority.specs.Laid.{Stored, OwnSmall};
+use authority_marks::mark;
+use authority_marks::mark_all;
 use machine_state::form_of;
-use marks::mark;
-use marks::mark_all;
 use sheet_rules::Member;
 use table::rows::wide;
 
-// The fields up to a member, where so many come before it.
+// The fields up to a member, where `fields` come before it.
 fn fields_with(m: Member, fields: usize) -> usize
     requires { ⌜ fields < 8 ⌝ }
     ensures { λ r. ⌜ r ≡ fieldsAfter m fields ⌝ }

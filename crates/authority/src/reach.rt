@@ -4,12 +4,13 @@ ghost use mathlib.Core.Bool.{_||_};
 ghost use Prim.Native.Nat.{_≤_};
 ghost use lib.Dec.{T, eqb};
 ghost use lib.ListN.{length};
-ghost use Rattle.authority_rules.specs.Authority.{mainHolder, isResource, isHolder};
+ghost use Rattle.authority_rules.specs.Authority.{mainHolder, isResource, isHolder, reached};
 ghost use Rattle.table.specs.View.{sheetIn};
 ghost use Rattle.machine_state.specs.Held.{objectsIn, stateIn};
 ghost use Rattle.machine_steps.specs.Running.{Running};
+ghost use Rattle.authority_marks.specs.Marked.{Added};
 ghost use Rattle.authority.specs.Laid.{Stored};
-ghost use Rattle.authority.specs.Reach.{ReachMarked, AuthorityWritten};
+ghost use Rattle.authority.specs.Reach.{AuthorityWritten};
 use crate::collect::write_reached;
 use crate::is_resource;
 use crate::mark_below;
@@ -29,14 +30,13 @@ pub fn is_holder(work: &[u16], n: usize, h: usize) -> bool
     is_resource(work, n, h)
 }
 
-// Marks what holder h can reach: what is its own, and the filled slots of its frames.
+// Marks what holder h can reach, beside what is marked: what is its own, and the filled slots of its frames.
 fn mark_reached(work: &mut [u16], top: Top, tally: Tally, h: usize)
     requires { ⌜ Running (now work) top tally × T (isHolder (sheetIn (now work)) (stateIn (sheetIn (now work)) (now work) top tally) h) ⌝ }
-    ensures { λ r. ⌜ ReachMarked (now (work .entry)) top tally h (now (work .exit)) ⌝ }
+    ensures { λ r. ⌜ Added (now (work .entry)) (reached (sheetIn (now (work .entry))) (stateIn (sheetIn (now (work .entry))) (now (work .entry)) top tally) h) (now (work .exit)) ⌝ }
 {
     let n = tally.objects;
     let d = tally.frames - 1;
-    marks::clear_marks(work);
     let beneath = mark_below(work, n, d, h);
     mark_frame(work, n, d, top.own, top.filled, beneath, h);
     if h == 256 {
@@ -56,6 +56,7 @@ pub fn write_authority(
     requires { ⌜ Running (now work) top tally × T (isHolder (sheetIn (now work)) (stateIn (sheetIn (now work)) (now work) top tally) h) × (256 ≤ length (now result)) ⌝ }
     ensures { λ r. ⌜ AuthorityWritten (now (work .entry)) top tally h (now (work .exit)) (now (result .entry)) (now (result .exit)) r ⌝ }
 {
+    authority_marks::clear_marks(work);
     mark_reached(work, top, tally, h);
     write_reached(work, tally.objects, result)
 }

@@ -15,14 +15,14 @@ use Rattle.authority_rules.specs.Authority.{isHolder, authority}
 use Rattle.authority_rules.specs.AuthorityQuestion.{Held, held, notHeld, heldIn, authorityHeld}
 use Rattle.table.specs.View.{sheetIn}
 use Rattle.table.proofs.ViewLaws.{only-trans, only-widen, sheetIn-same}
-use Rattle.verdict.specs.Asked.{TextJudged}
+use Rattle.verdict_question.specs.Asked.{TextJudged}
+use Rattle.verdict_question.proofs.OnLaws.{told-refused, told-accepted}
 use Rattle.machine.specs.declared.Halt.{Halt}
 use Rattle.machine.specs.Runs.{haltedState, SheetRun}
 use Rattle.lists.specs.PutAt.{begun}
 use Rattle.authority.specs.Reach.{AuthorityWritten}
 use Rattle.authority.proofs.EveryLaws.{authority-few}
 use Rattle.authority_question.specs.Asked.{heldReply, heldNumbers, HeldTold}
-use Rattle.authority_question.proofs.AskedLaws.{told-refused, told-accepted}
 
 module _ (w : List ℕ) (budget : ℕ) (w₁ : List ℕ) (halt : Halt) (s : SheetRun w budget w₁ halt) where
   pub run-sheet-same : sheetIn w₁ ≡ sheetIn w
@@ -67,12 +67,12 @@ module _ (w : List ℕ) (budget : ℕ) (w₁ : List ℕ) (halt : Halt) (s : Shee
           x = held-is ∙ ap (λ (b : Bool). cond b (held (authority (sheetIn w₁) (haltedState w₁ halt) h)) (notHeld NoHolder 0)) p
 
 -- a text: refused, or accepted and run
-module _ (text : List ℕ) (budget h : ℕ) (w w₁ : List ℕ) (v : Verdict) (j : TextJudged text w w₁ v) (result : List ℕ) where
-  pub held-refused : (q : Reason) (l : ℕ) → v ≡ Verdict.Refused q l → HeldTold (authorityHeld text budget h) w result w₁ result (AuthorityReply.Refused q l)
+module _ {text w w₁ : List ℕ} {v : Verdict} (j : TextJudged text w w₁ v) (budget h : ℕ) {result : List ℕ} where
+  pub held-refused : {q : Reason} {l : ℕ} → v ≡ Verdict.Refused q l → HeldTold (authorityHeld text budget h) w result w₁ result (AuthorityReply.Refused q l)
   unfolding authorityHeld
-  held-refused q l e = told-refused notHeld (λ s. heldIn s ((run s budget) .last) h) heldReply heldNumbers text w w₁ v j result (λ p n. refl) q l e
+  held-refused e = told-refused notHeld (λ s. heldIn s ((run s budget) .last) h) heldReply heldNumbers j (λ p n. refl) e
 
-  pub held-accepted : v ≡ Verdict.Accepted → (w′ result′ : List ℕ) (r : AuthorityReply) → HeldTold (heldIn (sheetIn w₁) ((run (sheetIn w₁) budget) .last) h) w₁ result w′ result′ r
+  pub held-accepted : v ≡ Verdict.Accepted → {w′ result′ : List ℕ} {r : AuthorityReply} → HeldTold (heldIn (sheetIn w₁) ((run (sheetIn w₁) budget) .last) h) w₁ result w′ result′ r
       → HeldTold (authorityHeld text budget h) w result w′ result′ r
   unfolding authorityHeld
-  held-accepted e w′ result′ r t = told-accepted notHeld (λ s. heldIn s ((run s budget) .last) h) heldReply heldNumbers text w w₁ v j result e w′ result′ r t
+  held-accepted e t = told-accepted notHeld (λ s. heldIn s ((run s budget) .last) h) heldReply heldNumbers j e t

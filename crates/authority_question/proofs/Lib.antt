@@ -1,3 +1,2 @@
-pub mod AskedLaws
 pub mod HeldLaws
 pub mod ReportLaws

@@ -12,14 +12,14 @@ use Rattle.authority_rules.specs.declared.ReportReply.{ReportReply}
 use Rattle.authority_rules.specs.Report.{Report, reported, notReported, holdings, reportOf, report}
 use Rattle.table.specs.View.{sheetIn}
 use Rattle.table.proofs.ViewLaws.{only-trans, only-widen}
-use Rattle.verdict.specs.Asked.{TextJudged}
+use Rattle.verdict_question.specs.Asked.{TextJudged}
+use Rattle.verdict_question.proofs.OnLaws.{told-refused, told-accepted}
 use Rattle.machine.specs.declared.Halt.{Halt}
 use Rattle.machine.specs.Runs.{haltedState, SheetRun}
 use Rattle.lists.specs.PutAt.{begun}
 use Rattle.authority.specs.Every.{entries, EveryWritten}
 use Rattle.authority.proofs.EveryLaws.{every-few}
 use Rattle.authority_question.specs.Asked.{reportReply, reportNumbers, ReportTold}
-use Rattle.authority_question.proofs.AskedLaws.{told-refused, told-accepted}
 use Rattle.authority_question.proofs.HeldLaws.{run-sheet-same}
 
 module _ (w : List ℕ) (budget : ℕ) (w₁ : List ℕ) (halt : Halt) (s : SheetRun w budget w₁ halt) (a : RunAnswer) (ea : a ≡ answerOf (ended (halt .outcome) (halt .tally .steps) (haltedState w₁ halt))) (result w′ result′ : List ℕ) (c : ℕ)
@@ -44,12 +44,12 @@ module _ (w : List ℕ) (budget : ℕ) (w₁ : List ℕ) (halt : Halt) (s : Shee
       count = omega (arith, ec, x .counted)
 
 -- a text: refused, or accepted and run
-module _ (text : List ℕ) (budget : ℕ) (w w₁ : List ℕ) (v : Verdict) (j : TextJudged text w w₁ v) (result : List ℕ) where
-  pub report-refused : (q : Reason) (l : ℕ) → v ≡ Verdict.Refused q l → ReportTold (report text budget) w result w₁ result (ReportReply.Refused q l)
+module _ {text w w₁ : List ℕ} {v : Verdict} (j : TextJudged text w w₁ v) (budget : ℕ) {result : List ℕ} where
+  pub report-refused : {q : Reason} {l : ℕ} → v ≡ Verdict.Refused q l → ReportTold (report text budget) w result w₁ result (ReportReply.Refused q l)
   unfolding report
-  report-refused q l e = told-refused notReported (λ s. reportOf s (run s budget)) reportReply reportNumbers text w w₁ v j result (λ p n. refl) q l e
+  report-refused e = told-refused notReported (λ s. reportOf s (run s budget)) reportReply reportNumbers j (λ p n. refl) e
 
-  pub report-accepted : v ≡ Verdict.Accepted → (w′ result′ : List ℕ) (r : ReportReply) → ReportTold (reportOf (sheetIn w₁) (run (sheetIn w₁) budget)) w₁ result w′ result′ r
+  pub report-accepted : v ≡ Verdict.Accepted → {w′ result′ : List ℕ} {r : ReportReply} → ReportTold (reportOf (sheetIn w₁) (run (sheetIn w₁) budget)) w₁ result w′ result′ r
       → ReportTold (report text budget) w result w′ result′ r
   unfolding report
-  report-accepted e w′ result′ r t = told-accepted notReported (λ s. reportOf s (run s budget)) reportReply reportNumbers text w w₁ v j result e w′ result′ r t
+  report-accepted e t = told-accepted notReported (λ s. reportOf s (run s budget)) reportReply reportNumbers j e t

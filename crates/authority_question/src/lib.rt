@@ -6,7 +6,7 @@ ghost use Rattle.machine_rules.specs.Steps.{run};
 ghost use Rattle.authority_rules.specs.AuthorityQuestion.{heldIn, authorityHeld};
 ghost use Rattle.table.specs.Layout.{workSize};
 ghost use Rattle.table.specs.View.{sheetIn};
-ghost use Rattle.machine.specs.Runs.{Judged};
+ghost use Rattle.accepted.specs.Accepted.{AcceptedIn};
 ghost use Rattle.authority_question.specs.Asked.{HeldTold, AuthorityAsked};
 use authority::reach::is_holder;
 use authority::reach::write_authority;
@@ -19,7 +19,7 @@ pub mod report;
 
 // The reply for the sheet that the buffer holds: the holder is looked for after the run.
 fn held_in(work: &mut [u16], budget: u32, h: usize, result: &mut [u16]) -> AuthorityReply
-    requires { ⌜ Judged (now work) × (256 ≤ length (now result)) ⌝ }
+    requires { ⌜ AcceptedIn (now work) × (256 ≤ length (now result)) ⌝ }
     ensures { λ r. ⌜ HeldTold (heldIn (sheetIn (now (work .entry))) ((run (sheetIn (now (work .entry))) budget) .last) h) (now (work .entry)) (now (result .entry)) (now (work .exit)) (now (result .exit)) r ⌝ }
 {
     let halt = machine::run_sheet(work, budget);
@@ -48,7 +48,7 @@ fn held_of(
     requires { ⌜ (workSize ≤ length (now work)) × (256 ≤ length (now result)) ⌝ }
     ensures { λ r. ⌜ HeldTold (authorityHeld (now (text .entry)) budget h) (now (work .entry)) (now (result .entry)) (now (work .exit)) (now (result .exit)) r ⌝ }
 {
-    let judged = verdict::judge_text(text, work);
+    let judged = verdict_question::judge_text(text, work);
     match judged {
         Verdict::Accepted => held_in(work, budget, h, result),
         Verdict::Refused { reason, line } => AuthorityReply::Refused { reason, line },
@@ -79,6 +79,6 @@ pub fn ask_authority(
         };
     }
     let reply = held_of(text, budget, h, work, result);
-    clear::clear(work);
+    question::clear(work);
     reply
 }

@@ -5,7 +5,7 @@ ghost use Rattle.machine_rules.specs.Steps.{run};
 ghost use Rattle.authority_rules.specs.Report.{reportOf, report};
 ghost use Rattle.table.specs.Layout.{workSize};
 ghost use Rattle.table.specs.View.{sheetIn};
-ghost use Rattle.machine.specs.Runs.{Judged};
+ghost use Rattle.accepted.specs.Accepted.{AcceptedIn};
 ghost use Rattle.authority.specs.Every.{everySize};
 ghost use Rattle.authority_question.specs.Asked.{ReportTold, ReportAsked};
 use authority_rules::ReportReply;
@@ -14,7 +14,7 @@ use sheet_rules::Verdict;
 
 // The report on the sheet that the buffer holds.
 fn report_in(work: &mut [u16], budget: u32, result: &mut [u16]) -> ReportReply
-    requires { ⌜ Judged (now work) × (everySize ≤ length (now result)) ⌝ }
+    requires { ⌜ AcceptedIn (now work) × (everySize ≤ length (now result)) ⌝ }
     ensures { λ r. ⌜ ReportTold (reportOf (sheetIn (now (work .entry))) (run (sheetIn (now (work .entry))) budget)) (now (work .entry)) (now (result .entry)) (now (work .exit)) (now (result .exit)) r ⌝ }
 {
     let halt = machine::run_sheet(work, budget);
@@ -34,7 +34,7 @@ fn report_of(text: &[u8], budget: u32, work: &mut [u16], result: &mut [u16]) -> 
     requires { ⌜ (workSize ≤ length (now work)) × (everySize ≤ length (now result)) ⌝ }
     ensures { λ r. ⌜ ReportTold (report (now (text .entry)) budget) (now (work .entry)) (now (result .entry)) (now (work .exit)) (now (result .exit)) r ⌝ }
 {
-    let judged = verdict::judge_text(text, work);
+    let judged = verdict_question::judge_text(text, work);
     match judged {
         Verdict::Accepted => report_in(work, budget, result),
         Verdict::Refused { reason, line } => ReportReply::Refused { reason, line },
@@ -59,6 +59,6 @@ pub fn ask_report(text: &[u8], budget: u32, work: &mut [u16], result: &mut [u16]
         };
     }
     let reply = report_of(text, budget, work, result);
-    clear::clear(work);
+    question::clear(work);
     reply
 }

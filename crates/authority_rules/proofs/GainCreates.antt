@@ -25,7 +25,8 @@ use Rattle.machine_rules.proofs.StoreLaws.{values-made, Grows, grows-append, So
 use Rattle.machine_rules.proofs.NextLaws.{its-step, its-store}
 use Rattle.authority_rules.specs.Authority.{isResource, frames, topHolder, ownValues, holds}
 use Rattle.authority_rules.specs.Gain.{Gain, maker, itself, endowed}
-use Rattle.authority_rules.proofs.HoldingLaws.{in-contains, SlotOf, Reaches, by-slot, by-own, resource-made, is-holds}
+use Rattle.lists.proofs.ContainsLaws.{in-contains}
+use Rattle.authority_rules.proofs.HoldingLaws.{SlotOf, Reaches, by-slot, by-own, resource-made, is-holds}
 use Rattle.authority_rules.proofs.StableLaws.{all-frames, slot-made, resource-same, slot-filled}
 use Rattle.authority_rules.proofs.GainWorks.{Gains, GainsNext, top-slot}
 

@@ -19,16 +19,18 @@ use Rattle.sheet_rules.specs.Sheet.{Instr, new, call, get, put, copy, Sheet}
 use Rattle.sheet_rules.specs.WellFormed.{WellFormed}
 use Rattle.type_rules.specs.Typing.{verdict}
 use Rattle.type_rules.specs.Typed.{Typed}
+use Rattle.type_rules.proofs.TypedLaws.{accepted-sheet}
 use Rattle.machine_rules.specs.State.{Object, Frame, State, frameCount, noObject, objectAt, made, lastOf, filled}
 use Rattle.machine_rules.specs.Step.{Action, creates, calls, returns, works, Next, step, storeFull, stackFull, bodyIn, fieldPlace, membersOf, slotValues, withNew, newStep, entered, calledStep, callStep, gotStep, getStep, hasPutStep, putStep, instrStep, returnStep, codeStep, nextStep}
 use Rattle.machine_rules.specs.Steps.{after}
 use Rattle.machine_rules.specs.Sound.{Sound}
 use Rattle.machine_rules.proofs.StoreLaws.{grows-append}
 use Rattle.machine_rules.proofs.NextLaws.{Comes, its-end, its-step, its-store, its-stack, its-lack, comes-step}
-use Rattle.machine_rules.proofs.SoundLaws.{step-sound, after-sound, accepted-sheet}
+use Rattle.machine_rules.proofs.SoundLaws.{step-sound, after-sound}
 use Rattle.authority_rules.specs.Authority.{isResource, frames, holderOf, topHolder, ownValues, holds}
 use Rattle.authority_rules.specs.Gain.{Gain, maker, itself, endowed, argument, result}
-use Rattle.authority_rules.proofs.HoldingLaws.{contains-in, this, Reaches, by-slot, by-own, is-holds}
+use Rattle.lists.proofs.ContainsLaws.{contains-in}
+use Rattle.authority_rules.proofs.HoldingLaws.{this, Reaches, by-slot, by-own, is-holds}
 use Rattle.authority_rules.proofs.StableLaws.{all-frames, holder-same}
 use Rattle.authority_rules.proofs.KindLaws.{pure-keeps}
 

@@ -4,13 +4,14 @@ use mathlib.Core.Path.{_≡_, refl}
 use mathlib.Core.Logic.{inl, inr}
 use Rattle.lists.proofs.Tests.{clash}
 use Rattle.sheet_rules.specs.Sheet.{Sheet}
+use Rattle.type_rules.proofs.TypedLaws.{accepted-sheet}
 use Rattle.machine_rules.specs.State.{State}
 use Rattle.machine_rules.specs.Step.{Next, finished, step, storeFull, stackFull, lacking, nextStep}
 use Rattle.machine_rules.specs.Sound.{Sound}
 use Rattle.machine_rules.proofs.NextLaws.{its-end, its-step, its-store, its-stack, its-lack}
 use Rattle.machine_rules.proofs.NextSound.{Goes, sound-goes}
 use Rattle.machine_rules.proofs.StoppedLaws.{finishes, stopped-by-store, stopped-by-stack}
-use Rattle.machine_rules.proofs.SoundLaws.{accepted-sheet, after-sound}
+use Rattle.machine_rules.proofs.SoundLaws.{after-sound}
 use Rattle.authority_rules.specs.Guarantee.{Finished, CanStep, Stopped, OneOf, first, second, third, ExactlyOneOf, Guaranteed}
 use Rattle.authority_rules.proofs.GainLaws.{step-gains}
 

@@ -10,28 +10,14 @@ use lib.Dec.{T, eqb, eqb→eq, ltb, ltb→lt}
 use lib.ListN.{length}
 use borrow.Author.Tests.{eqb-true, eq-eqb, ne-eqb}
 use Rattle.lists.specs.In.{In, here, there}
+use Rattle.lists.specs.Contains.{contains}
+use Rattle.lists.proofs.ContainsLaws.{contains-in, in-contains}
 use Rattle.lists.proofs.InLaws.{in-nil, in-left, in-right, in-cases}
 use Rattle.lists.proofs.Tests.{and-left, and-right, and-intro, or-left, or-right, or-cases, T→true, true→T}
 use Rattle.sheet_rules.specs.Limits.{storeLimit}
 use Rattle.sheet_rules.specs.Sheet.{Sheet, rowOfForm}
 use Rattle.machine_rules.specs.State.{Object, Frame, State, objectAt}
-use Rattle.authority_rules.specs.Authority.{mainHolder, isResourceKind, isResource, isHolder, frames, frameHolder, holderOf, slotsIf, slotsOf, ownValues, reached, contains, holds}
-
--- contains: membership as a test
-
-pub contains-in : (xs : List ℕ) (b : ℕ) → T (contains xs b) → In b xs
-unfolding contains
-contains-in [] b t = absurd t
-contains-in (x ∷ xs) b t = go (contains-in xs b) (or-cases (eqb x b) (contains xs b) t)
-  where
-    go : (T (contains xs b) → In b xs) → T (eqb x b) ⊎ T (contains xs b) → In b (x ∷ xs)
-    go later (inl u) = here (sym (eqb→eq x b u))
-    go later (inr u) = there (later u)
-
-pub in-contains : (xs : List ℕ) (b : ℕ) → In b xs → T (contains xs b)
-unfolding contains
-in-contains (x ∷ xs) b (here e) = or-left (eqb x b) (contains xs b) (true→T (eqb x b) (eq-eqb x b (sym e)))
-in-contains (x ∷ xs) b (there i) = or-right (eqb x b) (contains xs b) (in-contains xs b i)
+use Rattle.authority_rules.specs.Authority.{mainHolder, isResourceKind, isResource, isHolder, frames, frameHolder, holderOf, slotsIf, slotsOf, ownValues, reached, holds}
 
 module _ (s : Sheet) (os : List Object) where
   -- b is in a filled slot of a frame that belongs to h

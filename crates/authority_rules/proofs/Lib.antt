@@ -3,7 +3,6 @@ pub mod CasesHold
 pub mod AuthorityCases
 pub mod AuthorityLaws
 pub mod ReportLaws
-pub mod DecimalLaws
 pub mod HoldingLaws
 pub mod StableLaws
 pub mod KindLaws

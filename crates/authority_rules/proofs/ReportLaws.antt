@@ -10,10 +10,12 @@ use Rattle.lists.proofs.Tests.{T-ext, true→T}
 use Rattle.sheet_rules.specs.Sheet.{Sheet}
 use Rattle.sheet_rules.specs.Samples.{textOf, withLine, P}
 use Rattle.machine_rules.specs.State.{State}
-use Rattle.authority_rules.specs.Authority.{mainHolder, isResource, isHolder, contains}
+use Rattle.lists.specs.Contains.{contains}
+use Rattle.authority_rules.specs.Authority.{mainHolder, isResource, isHolder}
 use Rattle.authority_rules.specs.Report.{holders, report}
 use Rattle.authority_rules.specs.Printed.{printed}
-use Rattle.authority_rules.proofs.AuthorityLaws.{passing-exactly, resource-below}
+use Rattle.lists.proofs.PassingLaws.{passing-exactly}
+use Rattle.authority_rules.proofs.AuthorityLaws.{resource-below}
 use Rattle.authority_rules.proofs.Opened.{holding}
 
 -- an equality's test, the other way round

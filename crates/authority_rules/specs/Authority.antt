@@ -1,10 +1,12 @@
 -- Holders and their authority (document 01, Who holds what). Stands on the states of the machine.
-use Prim.Native.Nat.{ℕ, zero, suc}
+use Prim.Native.Nat.{ℕ}
 use mathlib.Core.Bool.{Bool, true, false, cond, _&&_, _||_}
 use mathlib.Core.List.{List, [], _∷_, _++_}
 use mathlib.Core.Option.{Option, none, some}
 use lib.Dec.{eqb, ltb}
 use lib.ListN.{length}
+use Rattle.lists.specs.Contains.{contains}
+use Rattle.lists.specs.Passing.{passing}
 use Rattle.sheet_rules.specs.declared.Kind.{Kind}
 use Rattle.sheet_rules.specs.declared.Kind.the-variants.{Pure, Resource}
 use Rattle.sheet_rules.specs.Sheet.{Sheet, rowOfForm}
@@ -46,19 +48,27 @@ holderOf s os (f ∷ fs) = frameHolder s os (f .own) (holderOf s os fs)
 abbrev pub topHolder : Sheet → State → ℕ
 topHolder s σ = holderOf s (σ .objects) (frames σ)
 
--- what a frame adds to h's slots: all its filled slots if it belongs to h (Who holds what)
+-- the slots of a frame that count: all that are filled (Who holds what)
+abbrev pub countedSlots : Frame → List ℕ
+countedSlots f = f .slots
+
+-- what a frame adds to h's slots: those that count, if it belongs to h (Who holds what)
 abbrev pub slotsIf : Bool → List ℕ → List ℕ
 slotsIf true slots = slots
 slotsIf false slots = []
 
--- the filled slots of those frames that belong to h (Who holds what)
+-- the slots that count of those frames that belong to h (Who holds what)
 unfoldable pub slotsOf : Sheet → List Object → ℕ → List Frame → List ℕ
 slotsOf s os h [] = []
-slotsOf s os h (f ∷ fs) = slotsIf (eqb (holderOf s os (f ∷ fs)) h) (f .slots) ++ slotsOf s os h fs
+slotsOf s os h (f ∷ fs) = slotsIf (eqb (holderOf s os (f ∷ fs)) h) (countedSlots f) ++ slotsOf s os h fs
 
--- what an object adds to its own authority as a holder: itself, its kept values and its fields (Who holds what)
+-- the kept values of an object that count: all of them (Who holds what)
+abbrev pub countedKept : Object → List ℕ
+countedKept o = o .kept
+
+-- what an object adds to its own authority as a holder: itself, its kept values that count and its fields (Who holds what)
 abbrev pub ownValues : ℕ → Object → List ℕ
-ownValues h o = h ∷ (o .kept ++ o .fields)
+ownValues h o = h ∷ (countedKept o ++ o .fields)
 
 -- what h can reach: main only the slots of its frames; a resource object also what is its own; any other number nothing
 -- (Who holds what)
@@ -69,24 +79,9 @@ reached s σ h =
     (ownValues h (objectAt (σ .objects) h) ++ slotsOf s (σ .objects) h (frames σ))
     [])
 
--- a number is among some (Who holds what)
-unfoldable pub contains : List ℕ → ℕ → Bool
-contains [] b = false
-contains (x ∷ xs) b = eqb x b || contains xs b
-
 -- h holds b: b is a resource object that h can reach (Who holds what)
 unfoldable pub holds : Sheet → State → ℕ → ℕ → Bool
 holds s σ h b = isResource s (σ .objects) b && contains (reached s σ h) b
-
--- a number in front of a list, if a test says so (Who holds what)
-abbrev pub addIf : Bool → ℕ → List ℕ → List ℕ
-addIf true x xs = x ∷ xs
-addIf false x xs = xs
-
--- the numbers that pass a test, of k numbers from i on (Who holds what)
-unfoldable pub passing : (ℕ → Bool) → ℕ → ℕ → List ℕ
-passing test i zero = []
-passing test i (suc k) = addIf (test i) i (passing test (suc i) k)
 
 -- a holder's authority, ascending (Who holds what)
 unfoldable pub authority : Sheet → State → ℕ → List ℕ

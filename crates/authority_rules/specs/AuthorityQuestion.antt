@@ -7,7 +7,7 @@ use Rattle.sheet_rules.specs.declared.Reason.{Reason}
 use Rattle.sheet_rules.specs.declared.Reason.the-variants.{NoHolder}
 use Rattle.sheet_rules.specs.Sheet.{Sheet}
 use Rattle.sheet_rules.specs.Reading.{meaning}
-use Rattle.type_rules.specs.Typing.{acceptedOn}
+use Rattle.type_rules.specs.Typing.{typing, acceptedOn}
 use Rattle.machine_rules.specs.State.{State}
 use Rattle.machine_rules.specs.Steps.{run}
 use Rattle.authority_rules.specs.Authority.{isHolder, authority}
@@ -24,4 +24,4 @@ heldIn s σ h = cond (isHolder s σ h) (held (authority s σ h)) (notHeld NoHold
 -- the authority of holder h in the state that the run of a text within a budget leaves; only an accepted sheet is run
 -- (Turned away, 11)
 unfoldable pub authorityHeld : List ℕ → ℕ → ℕ → Held
-authorityHeld text budget h = acceptedOn notHeld (λ s. heldIn s ((run s budget) .last) h) (meaning text)
+authorityHeld text budget h = acceptedOn typing notHeld (λ s. heldIn s ((run s budget) .last) h) (meaning text)

@@ -7,7 +7,8 @@ use lib.Dec.{T}
 use Rattle.sheet_rules.specs.Sheet.{Sheet}
 use Rattle.machine_rules.specs.State.{State}
 use Rattle.machine_rules.specs.Step.{Action, creates, calls, returns}
-use Rattle.authority_rules.specs.Authority.{isResource, holderOf, topHolder, contains, holds}
+use Rattle.lists.specs.Contains.{contains}
+use Rattle.authority_rules.specs.Authority.{isResource, holderOf, topHolder, holds}
 
 -- the three ways in which a step from state σ may give resource b to holder h; a step that only works has none.
 -- Top frame and authorities are those of σ, before the step (Who holds what)

@@ -6,11 +6,12 @@ use lib.ListN.{length}
 use Rattle.sheet_rules.specs.declared.Reason.{Reason}
 use Rattle.sheet_rules.specs.Sheet.{Sheet}
 use Rattle.sheet_rules.specs.Reading.{meaning}
-use Rattle.type_rules.specs.Typing.{acceptedOn}
+use Rattle.type_rules.specs.Typing.{typing, acceptedOn}
 use Rattle.machine_rules.specs.declared.RunAnswer.{RunAnswer}
 use Rattle.machine_rules.specs.State.{State}
 use Rattle.machine_rules.specs.Steps.{Ran, run, answerOf}
-use Rattle.authority_rules.specs.Authority.{mainHolder, isResource, passing, authority}
+use Rattle.lists.specs.Passing.{passing}
+use Rattle.authority_rules.specs.Authority.{mainHolder, isResource, authority}
 
 -- the holders of a state: main, then the resource objects ascending (One sheet in full)
 abbrev pub holders : Sheet → State → List ℕ
@@ -40,4 +41,4 @@ reportOf s r = reported (answerOf r) (holdings s (r .last))
 
 -- the report on a text and a budget, its buffers left aside; only an accepted sheet is run (One sheet in full)
 unfoldable pub report : List ℕ → ℕ → Report
-report text budget = acceptedOn notReported (λ s. reportOf s (run s budget)) (meaning text)
+report text budget = acceptedOn typing notReported (λ s. reportOf s (run s budget)) (meaning text)

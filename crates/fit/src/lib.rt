@@ -91,7 +91,7 @@ fn alike(work: &[u16], m: usize, k: usize) -> usize
         }
         let x = table::rows::member(work, m, n);
         let y = table::rows::member(work, k, n);
-        if !twins::same_member(x, y) {
+        if !row_twins::same_member(x, y) {
             return n;
         }
         n = n + 1;

@@ -21,7 +21,7 @@ use Rattle.table.specs.Layout.{rowCountAt, tableEnd, slotRowAddress, workSize}
 use Rattle.table.specs.View.{cell, rowIn, sheetIn}
 use Rattle.table.specs.Only.{Only}
 use Rattle.table.proofs.ViewLaws.{only-refl, only-trans, only-widen}
-use Rattle.clear.specs.Answer.{Answered}
+use Rattle.question.specs.Asked.{ToldAlone}
 use Rattle.reader.specs.Reads.{verdictMeans, SheetRead}
 use Rattle.reader.proofs.SheetLaws.{read-means, read-wellFormed}
 use Rattle.fit.specs.Told.{tells, FitFilled}
@@ -42,20 +42,22 @@ module _ (a b : ℕ) (w : List ℕ) (rows : ℕ) (counted : rows ≡ length ((sh
   unfolding answer
   answer-in = refl
 
-  pub no-row-a : rows ≤ a → Answered (fitIn (sheetIn w) a b) w w (FitReply.Refused NotDefined 0)
+  pub no-row-a : rows ≤ a → ToldAlone (fitIn (sheetIn w) a b) w w (FitReply.Refused NotDefined 0)
   unfolding answer
   no-row-a h =
       record {
         same = sym (answer-in ∙ ap (λ (x : Bool). answer x (ltb b (length ((sheetIn w) .rows)))) (le-ltb a (length ((sheetIn w) .rows)) (omega arith)));
+        written = refl;
         only = only-refl 0 workSize w;
       }
 
-  pub no-row-b : rows ≤ b → Answered (fitIn (sheetIn w) a b) w w (FitReply.Refused NotDefined 0)
+  pub no-row-b : rows ≤ b → ToldAlone (fitIn (sheetIn w) a b) w w (FitReply.Refused NotDefined 0)
   no-row-b h =
       record {
         same =
             sym (answer-in ∙ ap (answer (ltb a (length ((sheetIn w) .rows)))) (le-ltb b (length ((sheetIn w) .rows)) (omega arith))
             ∙ answer-no (ltb a (length ((sheetIn w) .rows))));
+        written = refl;
         only = only-refl 0 workSize w;
       }
 
@@ -69,10 +71,11 @@ module _ (a b : ℕ) (w : List ℕ) (rows : ℕ) (counted : rows ≡ length ((sh
         ∙ ap (λ (x : Bool). cond x FitReply.Fits FitReply.FitsNot)
         (sym (sheet-tells w w′ (subst (λ (n : ℕ). FitFilled n w w′) counted-here filled) a b (omega arith) (omega arith)))
 
-    pub fit-told : (t : Bool) → t ≡ tells w′ a b → (x : Bool) → t ≡ x → Answered (fitIn (sheetIn w) a b) w w′ (cond x FitReply.Fits FitReply.FitsNot)
+    pub fit-told : (t : Bool) → t ≡ tells w′ a b → (x : Bool) → t ≡ x → ToldAlone (fitIn (sheetIn w) a b) w w′ (cond x FitReply.Fits FitReply.FitsNot)
     fit-told t e x c =
         record {
           same = sym (there ∙ ap (λ (y : Bool). cond y FitReply.Fits FitReply.FitsNot) (sym e ∙ c));
+          written = refl;
           only = only-widen (omega arith) (omega arith) (filled .only);
         }
 
@@ -82,15 +85,16 @@ module _ (text : List ℕ) (a b : ℕ) (w w₁ : List ℕ) (v : Verdict) (size :
   pub reply-sheet : v ≡ Verdict.Accepted → WellFormed (sheetIn w₁)
   reply-sheet e = read-wellFormed text w w₁ size (subst (SheetRead text w w₁) e s)
 
-  pub reply-read : v ≡ Verdict.Accepted → (w′ : List ℕ) (r : FitReply) → Answered (fitIn (sheetIn w₁) a b) w₁ w′ r → Answered (fitReply text a b) w w′ r
+  pub reply-read : v ≡ Verdict.Accepted → (w′ : List ℕ) (r : FitReply) → ToldAlone (fitIn (sheetIn w₁) a b) w₁ w′ r → ToldAlone (fitReply text a b) w w′ r
   unfolding fitReply
   reply-read e w′ r k =
       record {
         same = k .same ∙ ap (λ (m : Meaning). fitOn m a b) (sym (read-means text w w₁ size (subst (SheetRead text w w₁) e s)));
+        written = refl;
         only = only-trans (only-widen (omega arith) (omega arith) (s .only)) (k .only);
       }
 
-  pub reply-refused : (q : Reason) (l : ℕ) → v ≡ Verdict.Refused q l → Answered (fitReply text a b) w w₁ (FitReply.Refused q l)
+  pub reply-refused : (q : Reason) (l : ℕ) → v ≡ Verdict.Refused q l → ToldAlone (fitReply text a b) w w₁ (FitReply.Refused q l)
   unfolding fitReply
   reply-refused q l e =
       record {
@@ -98,5 +102,6 @@ module _ (text : List ℕ) (a b : ℕ) (w w₁ : List ℕ) (v : Verdict) (size :
             ap (λ (m : Meaning). fitOn m a b)
             (ap (λ (x : Verdict). verdictMeans x (sheetIn w₁)) (sym e) ∙ s .told
             ∙ ap (λ (x : Bool). cond x (meaning text) (unreadable BufferTooShort 0)) (le-leb workSize (length w) size));
+        written = refl;
         only = only-widen (omega arith) (omega arith) (s .only);
       }

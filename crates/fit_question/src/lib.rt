@@ -5,7 +5,7 @@ ghost use Rattle.sheet_rules.specs.WellFormed.{WellFormed};
 ghost use Rattle.type_rules.specs.FitQuestion.{fitIn, fitReply};
 ghost use Rattle.table.specs.Layout.{workSize};
 ghost use Rattle.table.specs.View.{sheetIn};
-ghost use Rattle.clear.specs.Answer.{Answered};
+ghost use Rattle.question.specs.Asked.{ToldAlone};
 ghost use Rattle.fit_question.specs.Asked.{FitAsked};
 use sheet_rules::Reason;
 use sheet_rules::Verdict;
@@ -14,7 +14,7 @@ use type_rules::FitReply;
 // Whether row a fits row b, for the sheet that the table holds.
 fn reply_in(a: usize, b: usize, work: &mut [u16]) -> FitReply
     requires { ⌜ (workSize ≤ length (now work)) × WellFormed (sheetIn (now work)) ⌝ }
-    ensures { λ r. ⌜ Answered (fitIn (sheetIn (now (work .entry))) a b) (now (work .entry)) (now (work .exit)) r ⌝ }
+    ensures { λ r. ⌜ ToldAlone (fitIn (sheetIn (now (work .entry))) a b) (now (work .entry)) (now (work .exit)) r ⌝ }
 {
     let rows = table::rows::row_count(work);
     if rows <= a {
@@ -39,7 +39,7 @@ fn reply_in(a: usize, b: usize, work: &mut [u16]) -> FitReply
 // The answer for a text, in a work buffer that is long enough.
 fn reply(text: &[u8], a: usize, b: usize, work: &mut [u16]) -> FitReply
     requires { ⌜ workSize ≤ length (now work) ⌝ }
-    ensures { λ r. ⌜ Answered (fitReply (now (text .entry)) a b) (now (work .entry)) (now (work .exit)) r ⌝ }
+    ensures { λ r. ⌜ ToldAlone (fitReply (now (text .entry)) a b) (now (work .entry)) (now (work .exit)) r ⌝ }
 {
     match reader::read_sheet(text, work) {
         Verdict::Accepted => reply_in(a, b, work),
@@ -58,6 +58,6 @@ pub fn ask_fit(text: &[u8], a: usize, b: usize, work: &mut [u16]) -> FitReply
         };
     }
     let answer = reply(text, a, b, work);
-    clear::clear(work);
+    question::clear(work);
     answer
 }

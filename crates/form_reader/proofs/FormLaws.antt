@@ -21,8 +21,8 @@ use Rattle.table.proofs.PoolLaws.{from-trans, from→only, only→from, row-kep
 use Rattle.table.proofs.StoreLaws.{three-only, three-0, three-1, three-2}
 use Rattle.line_reader.specs.declared.Progress.{Progress}
 use Rattle.line_reader.specs.Told.{Room, readTold, Advanced}
-use Rattle.read_loop.proofs.LoopLaws.{advanced-later, advanced-room}
-use Rattle.read_loop.proofs.ThenLaws.{moved-then, moved-stop, advanced-sooner}
+use Rattle.reader_loop.proofs.LoopLaws.{advanced-later, advanced-room}
+use Rattle.reader_loop.proofs.ThenLaws.{moved-then, moved-stop, advanced-sooner}
 use Rattle.keep_reader.specs.Reads.{KeepsRead}
 use Rattle.part_reader.specs.declared.PoolProgress.{PoolProgress}
 use Rattle.part_reader.specs.Reads.{pooled, plain}

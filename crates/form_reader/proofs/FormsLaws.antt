@@ -22,7 +22,7 @@ use Rattle.table.proofs.ViewLaws.{only-widen}
 use Rattle.table.proofs.RowLaws.{ready-kept}
 use Rattle.table.proofs.PoolLaws.{from-refl, from-trans, from→only, row-kept, form-kept, form-ends-kept}
 use Rattle.line_reader.specs.Told.{Room}
-use Rattle.read_loop.proofs.LoopLaws.{Going, Turn, going-start, going-next, going-stop, going-end}
+use Rattle.reader_loop.proofs.LoopLaws.{Going, Turn, going-start, going-next, going-stop, going-end}
 use Rattle.part_reader.specs.declared.PoolProgress.{PoolProgress}
 use Rattle.part_reader.specs.Reads.{plain}
 use Rattle.form_reader.specs.Reads.{FormUsed, FormRead, partsRest, formRest, formReader, FormsUsed, FormsRead}

@@ -20,7 +20,7 @@ use Rattle.line_reader.specs.declared.LineTaken.{LineTaken}
 use Rattle.line_reader.specs.declared.Progress.{Progress}
 use Rattle.line_reader.specs.declared.Wanted.{Wanted}
 use Rattle.line_reader.specs.Told.{Room, heading, lineRead, LineTold, stoppedBy, Advanced}
-use Rattle.read_loop.proofs.ThenLaws.{line-then, line-stop, line-gives, past, past-room, advanced-sooner}
+use Rattle.reader_loop.proofs.ThenLaws.{line-then, line-stop, line-gives, past, past-room, advanced-sooner}
 use Rattle.part_reader.specs.declared.PoolProgress.{PoolProgress}
 use Rattle.part_reader.specs.Reads.{pooled, plain}
 use Rattle.part_reader.proofs.PartLaws.{not-moved}

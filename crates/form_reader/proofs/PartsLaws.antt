@@ -23,7 +23,7 @@ use Rattle.table.proofs.RowLaws.{members-getD}
 use Rattle.table.proofs.PoolLaws.{from-refl, from-trans, end-kept, part-kept}
 use Rattle.line_reader.specs.declared.Progress.{Progress}
 use Rattle.line_reader.specs.Told.{Room}
-use Rattle.read_loop.proofs.LoopLaws.{Going, Turn, going-start, going-next, going-stop, going-end}
+use Rattle.reader_loop.proofs.LoopLaws.{Going, Turn, going-start, going-next, going-stop, going-end}
 use Rattle.part_reader.specs.declared.PoolProgress.{PoolProgress}
 use Rattle.part_reader.specs.Reads.{plain, PartUsed, PartRead}
 use Rattle.part_reader.proofs.PartLaws.{not-moved, moved-used}

@@ -11,11 +11,11 @@ use Rattle.sheet_rules.specs.FormLines.{FormHeading, formLine, readPart, readFo
 use Rattle.table.specs.Layout.{rowAddress, formAddress, partAddress, tableEnd, workSize}
 use Rattle.table.specs.View.{cell, rowsIn, partIn, partsIn, formIn, formsIn}
 use Rattle.table.specs.Pool.{OnlyFrom, PartsEnd, FormEnds}
-use Rattle.read_loop.specs.Items.{ItemRead, ItemsRead}
+use Rattle.reader_loop.specs.Items.{ItemRead, ItemsRead}
 use Rattle.part_reader.specs.declared.PoolProgress.{PoolProgress}
 use Rattle.part_reader.specs.Reads.{plain}
 
--- where a form's parts may be stored: the form's and the row's numbers are small, the row has so many members
+-- where a form's parts may be stored: the form's and the row's numbers are small, the row has `count` members
 pub record PartsReady (w : List ℕ) (f row count keeps start : ℕ) : Type 0 where
   pub form : f < 64
   pub there : row < 64
@@ -25,7 +25,7 @@ pub record PartsReady (w : List ℕ) (f row count keeps start : ℕ) : Type 0 wh
   pub room : start ≤ 1024
   pub size : workSize ≤ length w
 
--- the rule's reader of the next part, after those before it, for a form whose parts began after so many instructions
+-- the rule's reader of the next part, after those before it, for a form whose parts began after `start` instructions
 abbrev pub partItem : List Member → ℕ → ℕ → ℕ → List Part → Reader Part
 partItem members forms keeps start before = readPart forms keeps (start + sizeOfParts before) (getD members (length before) noMember)
 
@@ -47,7 +47,7 @@ pub record FormUsed (w : List ℕ) (f used u : ℕ) : Type 0 where
   pub few : u ≤ 1024
   pub ends : FormEnds w f u
 
--- form f, read by a reader of forms, after so many instructions
+-- form f, read by a reader of forms, after `used` instructions
 pub record FormRead (text : List ℕ) (f used : ℕ) (form : Reader Form) (at n : ℕ) (w w′ : List ℕ) (p : PoolProgress) : Type 0 where
   pub read : ItemRead text form (λ x. formIn x f) (formAddress f) tableEnd at n w w′ (plain p)
   pub from : OnlyFrom (formAddress f) used w w′
@@ -63,7 +63,7 @@ formRest rows forms used h =
     many (h .count) (λ before. one (existingLine Place.Keep (length rows))) []
     >>= partsRest ((rowAt rows (h .row)) .members) (h .row) forms used
 
--- the rule's reader of a form, after so many instructions
+-- the rule's reader of a form, after `used` instructions
 unfoldable pub formReader : List Row → ℕ → ℕ → Reader Form
 formReader rows forms used = one (formLine (length rows)) >>= formRest rows forms used
 
@@ -73,7 +73,7 @@ pub record FormsUsed (w : List ℕ) (count u : ℕ) : Type 0 where
   pub few : u ≤ 1024
   pub ends : (f : ℕ) → f < count → FormEnds w f u
 
--- all forms of a sheet of so many rows, read
+-- all forms of a sheet of `rows` rows, read
 pub record FormsRead (text : List ℕ) (rows count at n : ℕ) (w w′ : List ℕ) (p : PoolProgress) : Type 0 where
   pub read : ItemsRead text (readForm (rowsIn w rows) count) formIn (formAddress 0) tableEnd count at n w w′ (plain p)
   pub used-then : (at′ n′ u : ℕ) → p ≡ PoolProgress.Moved at′ n′ u → FormsUsed w′ count u

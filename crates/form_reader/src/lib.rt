@@ -11,8 +11,8 @@ use line_reader::Wanted;
 use part_reader::PoolProgress;
 use table::rows::wide;
 
-// The parts of form f, one for each of its row's members, from a place of the text; the form keeps so many values, and so many
-// instructions are used.
+// The parts of form f, one for each of its row's members, from a place of the text; the form keeps `keeps` values, and
+// the sheet has used `start` instructions.
 fn read_parts(
     text: &[u8],
     work: &mut [u16],
@@ -51,8 +51,8 @@ fn read_parts(
     PoolProgress::Moved { at, line, used }
 }
 
-// Stores the heading of form f, and reads its kept rows and its parts from the place after it, in a sheet of so many rows and
-// forms, after so many instructions.
+// Stores the heading of form f, and reads its kept rows and its parts from the place after it, in a sheet of `rows` rows and
+// `forms` forms, after `used` instructions.
 fn keep_form(
     text: &[u8],
     work: &mut [u16],
@@ -77,7 +77,7 @@ fn keep_form(
     read_parts(text, work, f, wide(row), parts, forms, keeps, used, next, n)
 }
 
-// Form f, read from a place of the text, in a sheet of so many rows and forms, after so many instructions.
+// Form f, read from a place of the text, in a sheet of `rows` rows and `forms` forms, after `used` instructions.
 fn read_form(
     text: &[u8],
     work: &mut [u16],
@@ -106,7 +106,7 @@ fn read_form(
     keep_form(text, work, f, row, keeps, rows, forms, used, next, n)
 }
 
-// The forms of a sheet of so many rows, as many as its `forms` line says, from a place of the text.
+// The forms of a sheet of `rows` rows, as many as its `forms` line says, from a place of the text.
 pub fn read_forms(
     text: &[u8],
     work: &mut [u16],

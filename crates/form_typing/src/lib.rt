@@ -2,7 +2,7 @@
 ghost use mathlib.Core.Path.{_≡_};
 ghost use mathlib.Core.Bool.{not, _&&_};
 ghost use mathlib.Core.List.{[], _∷_};
-ghost use Prim.Native.Nat.{_≤_, _<_};
+ghost use Prim.Native.Nat.{_+_, _≤_, _<_};
 ghost use lib.ListN.{length, getD};
 ghost use Rattle.sheet_rules.specs.declared.Reason.the-variants.{Misfit, ImpureForm};
 ghost use Rattle.sheet_rules.specs.Sheet.{rowAt, formAt};
@@ -10,7 +10,7 @@ ghost use Rattle.type_rules.specs.Typing.{membersAt, unless, isPure, hasField, 
 ghost use Rattle.table.specs.View.{sheetIn};
 ghost use Rattle.table.specs.Whole.{Whole};
 ghost use Rattle.fit.specs.Told.{tells};
-ghost use Rattle.code_typing.specs.Walk.{walk};
+ghost use Rattle.code_typing.specs.Walk.{lineLimit, walk};
 ghost use Rattle.code_typing.specs.Told.{LinesJudged, CodeJudged};
 ghost use Rattle.form_typing.specs.Told.{KeepsPut, SlotsFilled, PlaceSmall, bodyFaults, bodySlotRows, partFaultsIn, partsFaultsIn, keepFaultsIn, formFaultsIn};
 use code_typing::Walked;
@@ -57,7 +57,7 @@ fn judge_body(
     count: u16,
     line: u32,
 ) -> Walked
-    requires { ⌜ Whole (now work) × (count ≤ 32) × (line ≤ 900000) ⌝ }
+    requires { ⌜ Whole (now work) × (count ≤ 32) × (line + 33 ≤ lineLimit) ⌝ }
     ensures { λ r. ⌜ CodeJudged (bodyFaults (now (work .entry)) f argument result start count) (bodySlotRows (now (work .entry)) f argument start count) line (now (work .entry)) (now (work .exit)) r ⌝ }
 {
     let own = table::forms::form_row(work, f);
@@ -75,7 +75,7 @@ fn judge_body(
 
 // An `init` line of form f: the kept value fits the field's row.
 fn judge_init(work: &[u16], f: usize, kept: u16, row: u16, line: u32) -> Walked
-    requires { ⌜ Whole (now work) × (line ≤ 900000) ⌝ }
+    requires { ⌜ Whole (now work) × (line < lineLimit) ⌝ }
     ensures { λ r. ⌜ r ≡ walk line (unless (tells (now (work .entry)) (getD ((formAt (sheetIn (now (work .entry))) f) .keeps) kept 0) row) Misfit ∷ []) ⌝ }
 {
     let given = table::forms::keep(work, f, wide(kept));
@@ -90,7 +90,7 @@ fn judge_init(work: &[u16], f: usize, kept: u16, row: u16, line: u32) -> Walked
 
 // A part of form f, for a member of its row.
 fn judge_part(work: &mut [u16], f: usize, member: Member, place: PartPlace, line: u32) -> Walked
-    requires { ⌜ Whole (now work) × PlaceSmall place × (line ≤ 900000) ⌝ }
+    requires { ⌜ Whole (now work) × PlaceSmall place × (line + 33 ≤ lineLimit) ⌝ }
     ensures { λ r. ⌜ LinesJudged (partFaultsIn (now (work .entry)) f member place) line (now (work .entry)) (now (work .exit)) r ⌝ }
 {
     match member {
@@ -113,7 +113,7 @@ fn judge_part(work: &mut [u16], f: usize, member: Member, place: PartPlace, line
 
 // The parts of form f.
 fn judge_parts(work: &mut [u16], f: usize, first: u32) -> Walked
-    requires { ⌜ Whole (now work) × (f < length ((sheetIn (now work)) .forms)) × (first ≤ 800000) ⌝ }
+    requires { ⌜ Whole (now work) × (f < length ((sheetIn (now work)) .forms)) × (first + 264 ≤ lineLimit) ⌝ }
     ensures { λ r. ⌜ LinesJudged (partsFaultsIn (now (work .entry)) f) first (now (work .entry)) (now (work .exit)) r ⌝ }
 {
     let row = wide(table::forms::form_row(work, f));
@@ -172,7 +172,7 @@ fn has_field(work: &[u16], a: usize) -> bool
 
 // The `form` line of a form of row a: a pure row has no field.
 fn judge_head(work: &[u16], a: usize, line: u32) -> Walked
-    requires { ⌜ Whole (now work) × (line ≤ 900000) ⌝ }
+    requires { ⌜ Whole (now work) × (line < lineLimit) ⌝ }
     ensures { λ r. ⌜ r ≡ walk line (formFault (rowAt ((sheetIn (now (work .entry))) .rows) a) ∷ []) ⌝ }
 {
     if !is_pure(work, a) {
@@ -200,7 +200,7 @@ fn may_keep(work: &[u16], pure: bool, k: usize) -> bool
 
 // The `keep` lines of form f.
 fn judge_keeps(work: &[u16], f: usize, first: u32) -> Walked
-    requires { ⌜ Whole (now work) × (first ≤ 900000) ⌝ }
+    requires { ⌜ Whole (now work) × (first + 8 ≤ lineLimit) ⌝ }
     ensures { λ r. ⌜ r ≡ walk first (keepFaultsIn (now (work .entry)) f) ⌝ }
 {
     let pure = is_pure(work, wide(table::forms::form_row(work, f)));
@@ -222,7 +222,7 @@ fn judge_keeps(work: &[u16], f: usize, first: u32) -> Walked
 
 // The lines of form f.
 pub fn judge_form(work: &mut [u16], f: usize, line: u32) -> Walked
-    requires { ⌜ Whole (now work) × (f < length ((sheetIn (now work)) .forms)) × (line ≤ 700000) ⌝ }
+    requires { ⌜ Whole (now work) × (f < length ((sheetIn (now work)) .forms)) × (line + 273 ≤ lineLimit) ⌝ }
     ensures { λ r. ⌜ LinesJudged (formFaultsIn (now (work .entry)) f) line (now (work .entry)) (now (work .exit)) r ⌝ }
 {
     let head = judge_head(work, wide(table::forms::form_row(work, f)), line);

@@ -13,11 +13,11 @@ use Rattle.sheet_rules.specs.declared.Place.{Place}
 use Rattle.sheet_rules.specs.declared.Place.the-variants.{Instruction}
 use Rattle.sheet_rules.specs.declared.Reason.the-variants.{Malformed, OutOfLimit, NotDefined}
 use Rattle.sheet_rules.specs.Keys.{samePlace, operationOf}
-use Rattle.sheet_rules.specs.Reader.{good, bad, demand}
+use Rattle.sheet_rules.specs.Reader.{good, bad, demand, nth}
 use Rattle.sheet_rules.specs.FormLines.{instrOf, nameAllowed, allBelow, namesExist, instrLine}
 use Rattle.lexer.specs.declared.Numbers.{Numbers}
 use Rattle.lexer.specs.Scan.{listOf, Fitting}
-use Rattle.judges.proofs.JudgeLaws.{stands-place, number-first, number-second, number-third, demand-no, demand-yes}
+use Rattle.line_judges.proofs.JudgeLaws.{stands-place, number-first, number-second, number-third, demand-no, demand-yes}
 use Rattle.instr_judge.specs.Named.{nameIn, slotOk, existIn}
 
 -- the slots of a `new` line
@@ -66,7 +66,7 @@ module _ (ns : Numbers) where
   named : (o : Operation) → Fitting (Instruction o) ns → nameAllowed (instrOf o (listOf ns)) ≡ leb (nameIn o ns) 63
   unfolding nameIn
   named New h = refl
-  named Call h = ap (λ (n : ℕ). leb n 63) (number-second (Instruction Call) ns h (lit≤ tt))
+  named Call h = and-true _ ∙ ap (λ (n : ℕ). leb n 63) (number-second (Instruction Call) ns h (lit≤ tt))
   named Get h = ap (λ (n : ℕ). leb n 63) (number-first (Instruction Get) ns h)
   named Put h = ap (λ (n : ℕ). leb n 63) (number-first (Instruction Put) ns h)
   named Copy h = refl
@@ -74,13 +74,14 @@ module _ (ns : Numbers) where
   module _ (forms filled : ℕ) where
     -- what is referred to
     referred : (o : Operation) → Fitting (Instruction o) ns → namesExist forms filled (instrOf o (listOf ns)) ≡ existIn forms filled o ns
-    unfolding existIn
+    unfolding existIn allBelow
     referred New h = ap (λ (n : ℕ). ltb n forms && allBelow filled (drop 1 (listOf ns))) (number-first (Instruction New) ns h)
     referred Call h =
-        ap₂ (λ (a b : ℕ). ltb a filled && ltb b filled) (number-first (Instruction Call) ns h) (number-third (Instruction Call) ns h (lit≤ tt))
+        ap (λ (x : Bool). ltb (nth (listOf ns) 0) filled && x) (and-true _)
+        ∙ ap₂ (λ (a b : ℕ). ltb a filled && ltb b filled) (number-first (Instruction Call) ns h) (number-third (Instruction Call) ns h (lit≤ tt))
     referred Get h = refl
-    referred Put h = ap (λ (n : ℕ). ltb n filled) (number-second (Instruction Put) ns h (lit≤ tt))
-    referred Copy h = ap (λ (n : ℕ). ltb n filled) (number-first (Instruction Copy) ns h)
+    referred Put h = and-true _ ∙ ap (λ (n : ℕ). ltb n filled) (number-second (Instruction Put) ns h (lit≤ tt))
+    referred Copy h = and-true _ ∙ ap (λ (n : ℕ). ltb n filled) (number-first (Instruction Copy) ns h)
 
     -- a law for each exit of the judge
     module _ (k : Place) (h : Fitting k ns) where

@@ -17,7 +17,7 @@ nameIn Get ns = ns .n0
 nameIn Put ns = ns .n0
 nameIn Copy ns = 0
 
--- number i of a line with so many is not there, or is below the bound
+-- number i of a line with `count` is not there, or is below the bound
 unfoldable pub slotOk : ℕ → ℕ → ℕ → ℕ → Bool
 slotOk bound count i n = leb count i || ltb n bound
 

@@ -7,10 +7,10 @@ ghost use Rattle.sheet_rules.specs.Keys.{operationOf};
 ghost use Rattle.sheet_rules.specs.Reader.{good};
 ghost use Rattle.sheet_rules.specs.FormLines.{allBelow, instrOf, instrLine};
 ghost use Rattle.lexer.specs.Scan.{listOf, Fitting};
-ghost use Rattle.judges.specs.Told.{lineTold};
+ghost use Rattle.line_judges.specs.Told.{lineTold};
 ghost use Rattle.instr_judge.specs.Named.{nameIn, slotOk, existIn};
-use judges::LineJudged;
 use lexer::Numbers;
+use line_judges::LineJudged;
 use sheet_rules::Operation;
 use sheet_rules::Place;
 use sheet_rules::Reason;
@@ -113,7 +113,7 @@ fn names_exist(forms: u16, filled: u16, operation: Operation, numbers: Numbers) 
     }
 }
 
-// An instruction line, in a sheet of so many forms, with so many slots filled.
+// An instruction line, in a sheet of `forms` forms, where `filled` slots are filled.
 pub fn instr_line(forms: u16, filled: u16, place: Place, numbers: Numbers) -> LineJudged
     requires { ⌜ Fitting place numbers ⌝ }
     ensures { λ r. ⌜ lineTold r (good (instrOf (operationOf place) (listOf numbers))) ≡ instrLine forms filled place (listOf numbers) ⌝ }

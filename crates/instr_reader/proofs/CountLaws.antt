@@ -12,7 +12,7 @@ use Rattle.sheet_rules.specs.Sheet.{new, call, get, put, copy}
 use Rattle.sheet_rules.specs.FormLines.{instrOf}
 use Rattle.lexer.specs.declared.Numbers.{Numbers}
 use Rattle.lexer.specs.Scan.{listOf, Fitting}
-use Rattle.judges.proofs.JudgeLaws.{number-first, number-second, number-third}
+use Rattle.line_judges.proofs.JudgeLaws.{number-first, number-second, number-third}
 use Rattle.table.specs.View.{operationCode, instrFrom}
 use Rattle.instr_reader.specs.Reads.{nineOf}
 

@@ -19,7 +19,7 @@ use Rattle.table.proofs.ViewLaws.{only-refl}
 use Rattle.line_reader.specs.declared.LineTaken.{LineTaken}
 use Rattle.line_reader.specs.declared.Progress.{Progress}
 use Rattle.line_reader.specs.Told.{instruction, lineRead, InstrTold, stoppedBy, Advanced}
-use Rattle.read_loop.proofs.ThenLaws.{past, past-room}
+use Rattle.reader_loop.proofs.ThenLaws.{past, past-room}
 use Rattle.instr_reader.specs.Reads.{nineOf, StoredInstr, InstrRead}
 use Rattle.instr_reader.proofs.CountLaws.{stored-rule}
 

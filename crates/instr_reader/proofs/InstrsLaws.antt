@@ -15,8 +15,8 @@ use Rattle.table.specs.View.{cell, instrIn, instrsIn}
 use Rattle.table.specs.Only.{Only}
 use Rattle.table.proofs.ViewLaws.{SameFrom, only-widen, instr-same}
 use Rattle.line_reader.specs.declared.Progress.{Progress}
-use Rattle.read_loop.specs.Items.{ItemsRead}
-use Rattle.read_loop.proofs.LoopLaws.{Going, Turn}
+use Rattle.reader_loop.specs.Items.{ItemsRead}
+use Rattle.reader_loop.proofs.LoopLaws.{Going, Turn}
 use Rattle.instr_reader.specs.Reads.{InstrRead, InstrsRead}
 
 -- a buffer that is changed in one instruction alone has the others as they were

@@ -13,7 +13,7 @@ use Rattle.table.specs.View.{instrIn, instrsIn}
 use Rattle.table.specs.Stores.{operationPut}
 use Rattle.table.specs.Only.{Only}
 use Rattle.line_reader.specs.declared.Progress.{Progress}
-use Rattle.read_loop.specs.Items.{ItemRead}
+use Rattle.reader_loop.specs.Items.{ItemRead}
 
 -- number k of instruction p, stored
 abbrev pub numberPut : List ℕ → ℕ → ℕ → ℕ → List ℕ

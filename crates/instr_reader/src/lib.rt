@@ -46,7 +46,7 @@ fn store_instr(work: &mut [u16], p: usize, operation: Operation, numbers: Number
     store_tail(work, p, numbers);
 }
 
-// Instruction p of the pool, read from a place of the text, with so many slots filled.
+// Instruction p of the pool, read from a place of the text, where `filled` slots are filled.
 fn read_instr(
     text: &[u8],
     work: &mut [u16],
@@ -74,7 +74,7 @@ fn read_instr(
     Progress::Moved { at: next, line: n }
 }
 
-// A body's instructions, from a place of the pool on. The first has so many slots filled, and each fills one more.
+// A body's instructions, from a place of the pool on. Before the first `filled` slots are filled; each fills one more.
 pub fn read_instrs(
     text: &[u8],
     work: &mut [u16],

@@ -16,7 +16,7 @@ use Rattle.line_reader.specs.declared.LineTaken.{LineTaken}
 use Rattle.line_reader.specs.declared.Wanted.{Wanted}
 use Rattle.line_reader.specs.declared.Progress.{Progress}
 use Rattle.line_reader.specs.Told.{number, lineRead, LineTold, stoppedBy, Advanced}
-use Rattle.read_loop.proofs.ThenLaws.{past, past-room}
+use Rattle.reader_loop.proofs.ThenLaws.{past, past-room}
 use Rattle.keep_reader.specs.Reads.{KeepRead}
 
 -- by what the line's reader gave

@@ -9,7 +9,7 @@ use Rattle.table.specs.Layout.{formAddress, keepAddress}
 use Rattle.table.specs.View.{cell}
 use Rattle.table.proofs.ViewLaws.{only-widen}
 use Rattle.line_reader.specs.declared.Progress.{Progress}
-use Rattle.read_loop.proofs.LoopLaws.{Going, Turn}
+use Rattle.reader_loop.proofs.LoopLaws.{Going, Turn}
 use Rattle.keep_reader.specs.Reads.{KeepRead}
 
 module _ (text : List ℕ) (f count rows from first : ℕ) (w₀ : List ℕ) where

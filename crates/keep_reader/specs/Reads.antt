@@ -6,7 +6,7 @@ use Rattle.sheet_rules.specs.Reader.{one, existingLine}
 use Rattle.table.specs.Layout.{formAddress, keepAddress}
 use Rattle.table.specs.View.{cell}
 use Rattle.line_reader.specs.declared.Progress.{Progress}
-use Rattle.read_loop.specs.Items.{ItemRead, ItemsRead}
+use Rattle.reader_loop.specs.Items.{ItemRead, ItemsRead}
 
 -- one kept row, read
 abbrev pub KeepRead : List ℕ → (f j rows at n : ℕ) → (w w′ : List ℕ) → Progress → Type 0

@@ -8,7 +8,7 @@ use line_reader::LineTaken;
 use line_reader::Progress;
 use line_reader::Wanted;
 
-// Kept row j of form f, read from a place of the text, in a sheet of so many rows.
+// Kept row j of form f, read from a place of the text, in a sheet of `rows` rows.
 fn read_keep(
     text: &[u8],
     work: &mut [u16],
@@ -35,7 +35,7 @@ fn read_keep(
     Progress::Moved { at: next, line: n }
 }
 
-// The kept rows of form f, as many as its `form` line says, from a place of the text, in a sheet of so many rows.
+// The kept rows of form f, as many as its `form` line says, from a place of the text, in a sheet of `rows` rows.
 pub fn read_keeps(
     text: &[u8],
     work: &mut [u16],

@@ -10,9 +10,9 @@ ghost use Rattle.authority_rules.specs.declared.AuthorityReply.{AuthorityReply 
 ghost use Rattle.authority_rules.specs.declared.ReportReply.{ReportReply as Reported};
 ghost use Rattle.authority_rules.specs.AuthorityQuestion.{authorityHeld};
 ghost use Rattle.authority_rules.specs.Report.{report};
-ghost use Rattle.clear.specs.Answer.{Asked};
+ghost use Rattle.question.specs.Asked.{Asked, AskedAlone};
 ghost use Rattle.authority.specs.Every.{everySize};
-ghost use Rattle.authority_question.specs.Asked.{AskedFor, heldReply, heldNumbers, reportReply, reportNumbers};
+ghost use Rattle.authority_question.specs.Asked.{heldReply, heldNumbers, reportReply, reportNumbers};
 ghost use Rattle.results.specs.Results.{fitResult, verdictResult, runResult, authorityResult, reportResult};
 use results::AuthorityResult;
 use results::FitResult;
@@ -23,7 +23,7 @@ use results::VerdictResult;
 // Whether row a of a text's sheet fits row b.
 #[no_mangle]
 pub extern "C" fn lexondar_fit(text: &[u8], a: usize, b: usize, work: &mut [u16]) -> FitResult
-    ensures { λ r. ⌜ Asked (fitResult (fitReply (now (text .entry)) a b)) (fitResult (FitAnswered.Refused BufferTooShort 0)) (now (work .entry)) (now (work .exit)) r ⌝ }
+    ensures { λ r. ⌜ AskedAlone (fitResult (fitReply (now (text .entry)) a b)) (fitResult (FitAnswered.Refused BufferTooShort 0)) (now (work .entry)) (now (work .exit)) r ⌝ }
 {
     results::fit_result(fit_question::ask_fit(text, a, b, work))
 }
@@ -31,15 +31,15 @@ pub extern "C" fn lexondar_fit(text: &[u8], a: usize, b: usize, work: &mut [u16]
 // The verdict on a text's sheet.
 #[no_mangle]
 pub extern "C" fn lexondar_verdict(text: &[u8], work: &mut [u16]) -> VerdictResult
-    ensures { λ r. ⌜ Asked (verdictResult (verdict (now (text .entry)))) (verdictResult (VerdictGiven.Refused BufferTooShort 0)) (now (work .entry)) (now (work .exit)) r ⌝ }
+    ensures { λ r. ⌜ AskedAlone (verdictResult (verdict (now (text .entry)))) (verdictResult (VerdictGiven.Refused BufferTooShort 0)) (now (work .entry)) (now (work .exit)) r ⌝ }
 {
-    results::verdict_result(verdict::ask_verdict(text, work))
+    results::verdict_result(verdict_question::ask_verdict(text, work))
 }
 
 // The run of a text's sheet within a budget.
 #[no_mangle]
 pub extern "C" fn lexondar_run(text: &[u8], budget: u32, work: &mut [u16]) -> RunResult
-    ensures { λ r. ⌜ Asked (runResult (runReply (now (text .entry)) budget)) (runResult (RunReplied.Refused BufferTooShort 0)) (now (work .entry)) (now (work .exit)) r ⌝ }
+    ensures { λ r. ⌜ AskedAlone (runResult (runReply (now (text .entry)) budget)) (runResult (RunReplied.Refused BufferTooShort 0)) (now (work .entry)) (now (work .exit)) r ⌝ }
 {
     results::run_result(run_question::ask_run(text, budget, work))
 }
@@ -53,7 +53,7 @@ pub extern "C" fn lexondar_authority(
     work: &mut [u16],
     result: &mut [u16],
 ) -> AuthorityResult
-    ensures { λ r. ⌜ AskedFor 256 (authorityResult (heldReply (authorityHeld (now (text .entry)) budget h))) (authorityResult (AuthorityReplied.Refused BufferTooShort 0)) (heldNumbers (authorityHeld (now (text .entry)) budget h)) (now (work .entry)) (now (result .entry)) (now (work .exit)) (now (result .exit)) r ⌝ }
+    ensures { λ r. ⌜ Asked 256 (authorityResult (heldReply (authorityHeld (now (text .entry)) budget h))) (authorityResult (AuthorityReplied.Refused BufferTooShort 0)) (heldNumbers (authorityHeld (now (text .entry)) budget h)) (now (work .entry)) (now (result .entry)) (now (work .exit)) (now (result .exit)) r ⌝ }
 {
     results::authority_result(authority_question::ask_authority(text, budget, h, work, result))
 }
@@ -66,7 +66,7 @@ pub extern "C" fn lexondar_report(
     work: &mut [u16],
     result: &mut [u16],
 ) -> ReportResult
-    ensures { λ r. ⌜ AskedFor everySize (reportResult (reportReply (report (now (text .entry)) budget))) (reportResult (Reported.Refused BufferTooShort 0)) (reportNumbers (report (now (text .entry)) budget)) (now (work .entry)) (now (result .entry)) (now (work .exit)) (now (result .exit)) r ⌝ }
+    ensures { λ r. ⌜ Asked everySize (reportResult (reportReply (report (now (text .entry)) budget))) (reportResult (Reported.Refused BufferTooShort 0)) (reportNumbers (report (now (text .entry)) budget)) (now (work .entry)) (now (result .entry)) (now (work .exit)) (now (result .exit)) r ⌝ }
 {
     results::report_result(authority_question::report::ask_report(text, budget, work, result))
 }

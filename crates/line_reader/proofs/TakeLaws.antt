@@ -23,9 +23,9 @@ use Rattle.sheet_rules.specs.FormLines.{formLine, bodyLine, instrLine}
 use Rattle.lexer.specs.declared.Numbers.{Numbers}
 use Rattle.lexer.specs.declared.LineRead.{LineRead}
 use Rattle.lexer.specs.Scan.{listOf, lineAt}
-use Rattle.judges.specs.declared.LineJudged.{LineJudged}
-use Rattle.judges.specs.Told.{lineTold, rowTold, memberRest}
-use Rattle.judges.proofs.StrictLaws.{Strict, strict-count, strict-existing, strict-body, strict-row, strict-form, strict-member, strict-instr, one-torn, one-line, Taken, line-taken}
+use Rattle.line_judges.specs.declared.LineJudged.{LineJudged}
+use Rattle.line_judges.specs.Told.{lineTold, rowTold, memberRest}
+use Rattle.line_judges.proofs.StrictLaws.{Strict, strict-count, strict-existing, strict-body, strict-row, strict-form, strict-member, strict-instr, one-torn, one-line, Taken, line-taken}
 use Rattle.line_reader.specs.declared.Wanted.{Wanted}
 use Rattle.line_reader.specs.declared.LineTaken.{LineTaken}
 use Rattle.line_reader.specs.Told.{Room, number, heading, instruction, Judges, settled, lineRead, lineAsked, Stands, Tells, Onward, LineTold, InstrTold}

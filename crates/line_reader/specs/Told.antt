@@ -18,8 +18,8 @@ use Rattle.sheet_rules.specs.RowLines.{Heading, rowLine, memberLine}
 use Rattle.sheet_rules.specs.FormLines.{FormHeading, formLine, bodyLine, instrOf, instrLine}
 use Rattle.lexer.specs.declared.Numbers.{Numbers}
 use Rattle.lexer.specs.Scan.{listOf, Fitting}
-use Rattle.judges.specs.declared.LineJudged.{LineJudged}
-use Rattle.judges.specs.Told.{lineTold, rowTold, Lowest, memberRest}
+use Rattle.line_judges.specs.declared.LineJudged.{LineJudged}
+use Rattle.line_judges.specs.Told.{lineTold, rowTold, Lowest, memberRest}
 use Rattle.line_reader.specs.declared.Wanted.{Wanted}
 use Rattle.line_reader.specs.declared.LineTaken.{LineTaken}
 use Rattle.line_reader.specs.declared.Progress.{Progress}

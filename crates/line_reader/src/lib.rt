@@ -3,9 +3,9 @@ ghost use mathlib.Core.Path.{_≡_};
 ghost use Prim.Native.Nat.{_<_};
 ghost use Rattle.lexer.specs.Scan.{Fitting};
 ghost use Rattle.line_reader.specs.Told.{Room, Judges, settled, stoppedBy, LineTold, InstrTold};
-use judges::LineJudged;
 use lexer::LineRead;
 use lexer::Numbers;
+use line_judges::LineJudged;
 use sheet_rules::Place;
 use sheet_rules::Reason;
 
@@ -48,15 +48,15 @@ fn judge(wanted: Wanted, place: Place, numbers: Numbers) -> LineJudged
     ensures { λ r. ⌜ Judges wanted place numbers r ⌝ }
 {
     match wanted {
-        Wanted::Types => judges::count_line(Place::Types, 1, 64, place, numbers),
-        Wanted::Row => judges::row_line(place, numbers),
-        Wanted::Member { lowest } => judges::member_line(lowest, place, numbers),
-        Wanted::Forms => judges::count_line(Place::Forms, 0, 64, place, numbers),
-        Wanted::Form { rows } => judges::form_line(rows, place, numbers),
-        Wanted::Keep { rows } => judges::existing_line(Place::Keep, rows, place, numbers),
-        Wanted::Init { keeps } => judges::existing_line(Place::Init, keeps, place, numbers),
-        Wanted::Body { used } => judges::body_line(Place::Body, used, place, numbers),
-        Wanted::Main { used } => judges::body_line(Place::Main, used, place, numbers),
+        Wanted::Types => line_judges::count_line(Place::Types, 1, 64, place, numbers),
+        Wanted::Row => line_judges::row_line(place, numbers),
+        Wanted::Member { lowest } => line_judges::member_line(lowest, place, numbers),
+        Wanted::Forms => line_judges::count_line(Place::Forms, 0, 64, place, numbers),
+        Wanted::Form { rows } => line_judges::form_line(rows, place, numbers),
+        Wanted::Keep { rows } => line_judges::existing_line(Place::Keep, rows, place, numbers),
+        Wanted::Init { keeps } => line_judges::existing_line(Place::Init, keeps, place, numbers),
+        Wanted::Body { used } => line_judges::body_line(Place::Body, used, place, numbers),
+        Wanted::Main { used } => line_judges::body_line(Place::Main, used, place, numbers),
     }
 }
 
@@ -96,8 +96,8 @@ pub fn take_line(text: &[u8], at: usize, line: u32, wanted: Wanted) -> LineTaken
     settle(judged, place, numbers, next, line)
 }
 
-// An instruction line at a place of the text, in a sheet of so many forms, with so many slots filled. Its judge is the longest: it has
-// a reader of its own.
+// An instruction line at a place of the text, in a sheet of `forms` forms, where `filled` slots are filled. Its judge is the
+// longest, so it has a reader of its own.
 pub fn take_instr(text: &[u8], at: usize, line: u32, forms: u16, filled: u16) -> LineTaken
     requires { ⌜ Room (now text) at line ⌝ }
     ensures { λ r. ⌜ InstrTold forms filled (now (text .entry)) at line r ⌝ }

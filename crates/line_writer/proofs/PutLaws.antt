@@ -8,9 +8,9 @@ use lib.Seq.{length-take-le, take-length, take-suc, set-split, drop-drop, getD-d
 use Rattle.sheet_rules.specs.Lines.{newline, comma, digit0}
 use Rattle.lists.specs.PutAt.{begun, putAt}
 use Rattle.lists.proofs.PutAtLaws.{put-put}
-use Rattle.authority_rules.specs.Printed.{decimal, further, lineText}
+use Rattle.sheet_rules.specs.Decimals.{decimal, further, lineText}
 use Rattle.line_writer.specs.Put.{Put}
-use Rattle.authority_rules.proofs.DecimalLaws.{decimal-one, decimal-more, ten-digits, nine-digits}
+use Rattle.sheet_rules.proofs.DecimalLaws.{decimal-one, decimal-more, ten-digits, nine-digits}
 
 -- a byte stored
 pub put-one : (out : List ℕ) (at b : ℕ) → at < length out → Put 1 at (b ∷ []) out (set out at b) (at + 1)

@@ -3,7 +3,7 @@ ghost use mathlib.Core.Path.{_≡_};
 ghost use Prim.Native.Nat.{_+_, _*_, _<_, _≤_};
 ghost use mathlib.Core.List.{[], _∷_};
 ghost use lib.ListN.{length, take, drop};
-ghost use Rattle.authority_rules.specs.Printed.{decimal, further, lineText};
+ghost use Rattle.sheet_rules.specs.Decimals.{decimal, further, lineText};
 ghost use Rattle.line_writer.specs.Put.{Put};
 
 // Puts a byte; answers the place after it.

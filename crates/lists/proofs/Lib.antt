@@ -3,3 +3,5 @@ pub mod InLaws
 pub mod PairwiseLaws
 pub mod TabLaws
 pub mod PutAtLaws
+pub mod ContainsLaws
+pub mod PassingLaws

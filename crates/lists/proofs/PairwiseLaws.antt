@@ -16,6 +16,10 @@ module _ {A B : Type 0} where
   pairwise-snoc none q = pair q none
   pairwise-snoc (pair r p) q = pair r (pairwise-snoc p q)
 
+  pub pairwise-both : {R : A → B → Type 0} {xs zs : List A} {ys ws : List B} → Pairwise R xs ys → Pairwise R zs ws → Pairwise R (xs ++ zs) (ys ++ ws)
+  pairwise-both none q = q
+  pairwise-both (pair r p) q = pair r (pairwise-both p q)
+
   pub pairwise-map : {R Q : A → B → Type 0} {xs : List A} {ys : List B} → ((x : A) (y : B) → R x y → Q x y) → Pairwise R xs ys → Pairwise Q xs ys
   pairwise-map f none = none
   pairwise-map f (pair {x = x} {y = y} r p) = pair (f x y r) (pairwise-map f p)

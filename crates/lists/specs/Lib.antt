@@ -2,3 +2,5 @@ pub mod In
 pub mod Pairwise
 pub mod Tab
 pub mod PutAt
+pub mod Contains
+pub mod Passing

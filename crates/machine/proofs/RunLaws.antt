@@ -9,8 +9,6 @@ use denote.Enum.Declared.{tagOf}
 use lib.ListN.{length}
 use Rattle.lists.specs.Tab.{tab}
 use Rattle.sheet_rules.specs.Sheet.{Sheet, Instr}
-use Rattle.sheet_rules.specs.WellFormed.{WellFormed}
-use Rattle.type_rules.specs.Typed.{Typed}
 use Rattle.machine_rules.specs.declared.Outcome.{Outcome}
 use Rattle.machine_rules.specs.declared.Tally.{Tally}
 use Rattle.machine_rules.specs.State.{start, lastOf}
@@ -18,22 +16,23 @@ use Rattle.machine_rules.specs.Steps.{startTally, runFrom, run}
 use Rattle.machine_rules.specs.Sound.{Sound}
 use Rattle.machine_rules.proofs.SoundLaws.{start-sound, step-sound}
 use Rattle.machine_rules.proofs.TakenLaws.{run-step}
-use Rattle.table.specs.Layout.{mainStartAt, mainCountAt, objectAddress, stateEnd, workSize}
+use Rattle.table.specs.Layout.{mainStartAt, mainCountAt, objectAddress, stateEnd, workSize, slotAddress}
 use Rattle.table.specs.View.{cell, instrsIn, sheetIn}
 use Rattle.table.specs.Only.{Only}
 use Rattle.table.proofs.ViewLaws.{only-refl, only-trans, only-widen, sheetIn-same}
-use Rattle.table.proofs.PoolLaws.{placed-same}
 use Rattle.table.proofs.SheetLaws.{main-is}
-use Rattle.member_places.specs.Located.{PlacesFilled}
-use Rattle.member_places.proofs.LocatedLaws.{places-sheet, located-same}
+use Rattle.accepted.specs.Accepted.{AcceptedIn}
+use Rattle.accepted.proofs.AcceptedLaws.{accepted-same}
+use Rattle.machine_places.specs.Located.{PlacesFilled}
+use Rattle.machine_places.proofs.LocatedLaws.{places-sheet, located-same}
 use Rattle.machine_state.specs.declared.Top.{Top}
-use Rattle.machine_state.specs.Held.{slotAddress, slotsIn, belowIn, stateIn}
+use Rattle.machine_state.specs.Held.{slotsIn, belowIn, stateIn}
 use Rattle.machine_steps.specs.Running.{Running, Took}
 use Rattle.machine_steps.proofs.FacingLaws.{frames-few, room, last-is}
 use Rattle.machine.specs.declared.Move.{Move}
 use Rattle.machine.proofs.Move.{the-type}
 use Rattle.machine.specs.declared.Halt.{Halt}
-use Rattle.machine.specs.Runs.{Moved, Ends, startTop, outcomeOf, Judged, Able, Halted, SheetRun}
+use Rattle.machine.specs.Runs.{Moved, Ends, startTop, outcomeOf, Able, SheetRun}
 
 -- the sheet stays what it is while the state changes
 pub sheet-kept : (w w′ : List ℕ) → Only (objectAddress 0) stateEnd w w′ → sheetIn w′ ≡ sheetIn w
@@ -43,13 +42,11 @@ sheet-kept w w′ o = sheetIn-same w w′ (λ i h. o .below i (omega arith))
 pub took-running : (w : List ℕ) (t : Top) (k : Tally) (w′ : List ℕ) (t′ : Top) (k′ : Tally) → Running w t k → Took w t k w′ t′ k′ → Running w′ t′ k′
 took-running w t k w′ t′ k′ r o =
     record {
-      whole = record { size = omega (arith, o .only .size, r .whole .size); sheet = subst WellFormed (sym same) (r .whole .sheet) };
-      typed = subst Typed (sym same) (r .typed);
-      placed = placed-same w w′ (λ i h. o .only .below i (omega arith)) (r .placed);
+      accepted = accepted-same w w′ (o .only .size) (λ i h. o .only .below i (omega arith)) (r .accepted);
       located = located-same w w′ (λ i h. o .only .below i (omega arith)) (r .located);
       sound =
           subst (λ (s : Sheet). Sound s (stateIn s w′ t′ k′)) (sym same)
-          (step-sound (sheetIn w) (r .whole .sheet) (r .typed) (stateIn (sheetIn w) w t k) (stateIn (sheetIn w) w′ t′ k′) (o .action) (r .sound) (o .next));
+          (step-sound (sheetIn w) (r .accepted .whole .sheet) (r .accepted .typed) (stateIn (sheetIn w) w t k) (stateIn (sheetIn w) w′ t′ k′) (o .action) (r .sound) (o .next));
       ending = o .ending;
     }
   where
@@ -68,12 +65,10 @@ start-is w =
 pub able-running : (w : List ℕ) → Able w → Running w (startTop w) startTally
 able-running w a =
     record {
-      whole = a .whole;
-      typed = a .typed;
-      placed = a .placed;
+      accepted = a .accepted;
       located = a .located;
-      sound = subst (Sound (sheetIn w)) (sym (start-is w)) (start-sound (sheetIn w) (a .whole .sheet) (a .typed));
-      ending = record { frames = omega arith; top = a .placed .main; below = λ f h. absurd (omega arith) };
+      sound = subst (Sound (sheetIn w)) (sym (start-is w)) (start-sound (sheetIn w) (a .accepted .whole .sheet) (a .accepted .typed));
+      ending = record { frames = omega arith; top = a .accepted .placed .main; below = λ f h. absurd (omega arith) };
     }
 
 -- what the loop keeps: a run, and that running on from here with what is left of the budget is running from the start
@@ -116,10 +111,10 @@ module _ (w₀ : List ℕ) (budget : ℕ) (w : List ℕ) (t : Top) (k : Tally) (
       more = omega arith
 
   -- the end
-  halted : (w′ : List ℕ) (o : Outcome) → Ends budget w t k w′ o → Halted w₀ budget w′ (record { outcome = o; top = t; tally = k })
+  halted : (w′ : List ℕ) (o : Outcome) → Ends budget w t k w′ o → SheetRun w₀ budget w′ (record { outcome = o; top = t; tally = k })
   halted w′ o e =
-      subst (λ (x : List ℕ). Halted w₀ budget x (record { outcome = o; top = t; tally = k })) (sym (e .left))
-      (record { ran = sym (g .same) ∙ e .here; running = g .running; within = g .within; only = g .only })
+      subst (λ (x : List ℕ). SheetRun w₀ budget x (record { outcome = o; top = t; tally = k })) (sym (e .left))
+      (record { ran = sym (g .same) ∙ e .here; running = g .running; within = g .within; only = only-widen (omega arith) (omega arith) (g .only) })
 
   -- whichever it was: any but a step taken
   none-taken : (x : ℕ) → (x ≡ 1) ⊎ ((x ≡ 2) ⊎ ((x ≡ 3) ⊎ (x ≡ 4))) → x ≡ 0 → ⊥
@@ -128,7 +123,7 @@ module _ (w₀ : List ℕ) (budget : ℕ) (w : List ℕ) (t : Top) (k : Tally) (
   none-taken x (inr (inr (inl e))) q = omega arith
   none-taken x (inr (inr (inr e))) q = omega arith
 
-  pub going-ends : (w′ : List ℕ) (m : Move) → Moved budget w t k w′ m → (tagOf the-type m ≡ 1) ⊎ ((tagOf the-type m ≡ 2) ⊎ ((tagOf the-type m ≡ 3) ⊎ (tagOf the-type m ≡ 4))) → Halted w₀ budget w′ (record { outcome = outcomeOf m; top = t; tally = k })
+  pub going-ends : (w′ : List ℕ) (m : Move) → Moved budget w t k w′ m → (tagOf the-type m ≡ 1) ⊎ ((tagOf the-type m ≡ 2) ⊎ ((tagOf the-type m ≡ 3) ⊎ (tagOf the-type m ≡ 4))) → SheetRun w₀ budget w′ (record { outcome = outcomeOf m; top = t; tally = k })
   going-ends w′ (Move.Taken t′ k′) e d = absurd (none-taken 0 d refl)
   going-ends w′ Move.Finished e d = halted w′ (outcomeOf Move.Finished) e
   going-ends w′ Move.Spent e d = halted w′ (outcomeOf Move.Spent) e
@@ -137,22 +132,16 @@ module _ (w₀ : List ℕ) (budget : ℕ) (w : List ℕ) (t : Top) (k : Tally) (
 
 -- the sheet's run: its members are located, and then it is run
 
-pub judged-able : (w w₁ : List ℕ) → Judged w → PlacesFilled w w₁ → Able w₁
-judged-able w w₁ j p =
-    record {
-      whole = record { size = omega (arith, p .only .size, j .whole .size); sheet = subst WellFormed (sym (places-sheet w w₁ (p .only))) (j .whole .sheet) };
-      typed = subst Typed (sym (places-sheet w w₁ (p .only))) (j .typed);
-      placed = placed-same w w₁ (λ i h. p .only .below i h) (j .placed);
-      located = p .located;
-    }
+pub located-able : (w w₁ : List ℕ) → AcceptedIn w → PlacesFilled w w₁ → Able w₁
+located-able w w₁ a p = record { accepted = accepted-same w w₁ (p .only .size) (λ i h. p .only .below i h) a; located = p .located }
 
-pub sheet-run : (w w₁ w′ : List ℕ) (budget : ℕ) (h : Halt) → PlacesFilled w w₁ → Halted w₁ budget w′ h → SheetRun w budget w′ h
+pub sheet-run : (w w₁ w′ : List ℕ) (budget : ℕ) (h : Halt) → PlacesFilled w w₁ → SheetRun w₁ budget w′ h → SheetRun w budget w′ h
 sheet-run w w₁ w′ budget h p q =
     record {
       ran = ap (λ (s : Sheet). run s budget) (sym (places-sheet w w₁ (p .only))) ∙ q .ran;
       running = q .running;
       within = q .within;
-      only = only-trans (only-widen (omega arith) (omega arith) (p .only)) (only-widen (omega arith) (omega arith) (q .only));
+      only = only-trans (only-widen (omega arith) (omega arith) (p .only)) (q .only);
     }
 
 -- what it answers
@@ -163,7 +152,7 @@ module _ (w : List ℕ) (t : Top) (k : Tally) (r : Running w t k) where
   last-none e = ap (λ (n : ℕ). lastOf (slotsIn w (pred (k .frames)) n)) (sym e)
 
   pub last-asks : (t .filled ≡ 0 → ⊥) → (k .frames - 1 < 64) × (t .filled - 1 < 44) × (workSize ≤ length w)
-  last-asks n = (omega (arith, frames-few w t k r), omega (arith, room w t k r), r .whole .size)
+  last-asks n = (omega (arith, frames-few w t k r), omega (arith, room w t k r), r .accepted .whole .size)
 
   pub last-slot : (t .filled ≡ 0 → ⊥) → cell w (slotAddress (k .frames - 1) (t .filled - 1)) ≡ lastOf (slotsIn w (pred (k .frames)) (t .filled))
   last-slot n =

@@ -3,7 +3,6 @@
 use Prim.Native.Nat.{ℕ, suc, _+_, _-_, _≤_, _<_}
 use mathlib.Core.Path.{_≡_}
 use mathlib.Core.List.{List}
-use Rattle.type_rules.specs.Typed.{Typed}
 use Rattle.machine_rules.specs.declared.Outcome.{Outcome}
 use Rattle.machine_rules.specs.declared.Outcome.the-variants.{Done, Spent, StoreFull, StackFull}
 use Rattle.machine_rules.specs.declared.Tally.{Tally}
@@ -11,12 +10,11 @@ use Rattle.machine_rules.specs.State.{State}
 use Rattle.machine_rules.specs.Step.{storeFull, stackFull, nextStep}
 use Rattle.machine_rules.specs.declared.RunAnswer.{RunAnswer}
 use Rattle.machine_rules.specs.Steps.{ended, runFrom, run, answerOf}
-use Rattle.table.specs.Layout.{mainStartAt, mainCountAt, tableEnd, objectAddress, stateEnd}
+use Rattle.table.specs.Layout.{mainStartAt, mainCountAt, tableEnd, stateEnd}
 use Rattle.table.specs.View.{cell, sheetIn}
 use Rattle.table.specs.Only.{Only}
-use Rattle.table.specs.Pool.{Placed}
-use Rattle.table.specs.Whole.{Whole}
-use Rattle.member_places.specs.Located.{Located}
+use Rattle.accepted.specs.Accepted.{AcceptedIn}
+use Rattle.machine_places.specs.Located.{Located}
 use Rattle.machine_state.specs.declared.Top.{Top}
 use Rattle.machine_state.specs.Held.{stateIn}
 use Rattle.machine_steps.specs.Running.{Running, Took}
@@ -56,32 +54,17 @@ Moved budget w t k w′ Move.StackFull = Ends budget w t k w′ (outcomeOf Move.
 abbrev pub startTop : List ℕ → Top
 startTop w = record { own = 0; filled = 0; next = cell w mainStartAt; end = cell w mainStartAt + cell w mainCountAt }
 
--- a buffer whose sheet was accepted: it is well formed and well typed, with all its instructions in the pool
-pub record Judged (w : List ℕ) : Type 0 where
-  pub whole : Whole w
-  pub typed : Typed (sheetIn w)
-  pub placed : Placed w
-
--- one that can be run: its members are located as well
+-- a buffer that can be run: its sheet was accepted, and its members are located
 pub record Able (w : List ℕ) : Type 0 where
-  pub whole : Whole w
-  pub typed : Typed (sheetIn w)
-  pub placed : Placed w
+  pub accepted : AcceptedIn w
   pub located : Located w
 
 -- the state in which a run halted
 abbrev pub haltedState : List ℕ → Halt → State
 haltedState w h = stateIn (sheetIn w) w (h .top) (h .tally)
 
--- the promise of a run: its outcome, its steps and the state that it leaves are those of the rules' run; nothing but the state is
--- changed
-pub record Halted (w : List ℕ) (budget : ℕ) (w′ : List ℕ) (h : Halt) : Type 0 where
-  pub ran : run (sheetIn w) budget ≡ ended (h .outcome) (h .tally .steps) (haltedState w′ h)
-  pub running : Running w′ (h .top) (h .tally)
-  pub within : h .tally .steps ≤ budget
-  pub only : Only (objectAddress 0) stateEnd w w′
-
--- the same, from a sheet that was accepted: nothing but the room after the table is changed
+-- the promise of a run: its outcome, its steps and the state that it leaves are those of the rules' run; nothing but the room after
+-- the table is changed
 pub record SheetRun (w : List ℕ) (budget : ℕ) (w′ : List ℕ) (h : Halt) : Type 0 where
   pub ran : run (sheetIn w) budget ≡ ended (h .outcome) (h .tally .steps) (haltedState w′ h)
   pub running : Running w′ (h .top) (h .tally)

@@ -6,9 +6,10 @@ ghost use Rattle.machine_rules.specs.State.{lastOf};
 ghost use Rattle.machine_rules.specs.Steps.{ended, valueOf, answerOf};
 ghost use Rattle.table.specs.Told.{newSlots};
 ghost use Rattle.table.specs.View.{sheetIn};
+ghost use Rattle.accepted.specs.Accepted.{AcceptedIn};
 ghost use Rattle.machine_state.specs.Held.{slotsIn, stateIn};
 ghost use Rattle.machine_steps.specs.Running.{Running, Facing};
-ghost use Rattle.machine.specs.Runs.{Tried, Moved, Able, startTop, outcomeOf, Halted, Judged, SheetRun, SheetAnswered};
+ghost use Rattle.machine.specs.Runs.{Tried, Moved, Able, startTop, outcomeOf, SheetRun, SheetAnswered};
 use machine_rules::Outcome;
 use machine_rules::RunAnswer;
 use machine_rules::Tally;
@@ -145,7 +146,7 @@ fn start_top(work: &[u16]) -> Top
 // The run within a budget: step after step, until there is none.
 fn run(work: &mut [u16], budget: u32) -> Halt
     requires { ⌜ Able (now work) ⌝ }
-    ensures { λ r. ⌜ Halted (now (work .entry)) budget (now (work .exit)) r ⌝ }
+    ensures { λ r. ⌜ SheetRun (now (work .entry)) budget (now (work .exit)) r ⌝ }
 {
     let most = budget as usize;
     let mut top = start_top(work);
@@ -166,10 +167,10 @@ fn run(work: &mut [u16], budget: u32) -> Halt
 
 // The run of the sheet that the buffer holds: its members are located first.
 pub fn run_sheet(work: &mut [u16], budget: u32) -> Halt
-    requires { ⌜ Judged (now work) ⌝ }
+    requires { ⌜ AcceptedIn (now work) ⌝ }
     ensures { λ r. ⌜ SheetRun (now (work .entry)) budget (now (work .exit)) r ⌝ }
 {
-    member_places::locate(work);
+    machine_places::locate(work);
     run(work, budget)
 }
 
@@ -212,7 +213,7 @@ pub fn answer(work: &[u16], outcome: Outcome, top: Top, tally: Tally) -> RunAnsw
 
 // The run of the sheet that the buffer holds, and its answer.
 pub fn answer_sheet(work: &mut [u16], budget: u32) -> RunAnswer
-    requires { ⌜ Judged (now work) ⌝ }
+    requires { ⌜ AcceptedIn (now work) ⌝ }
     ensures { λ r. ⌜ SheetAnswered (now (work .entry)) budget (now (work .exit)) r ⌝ }
 {
     let halt = run_sheet(work, budget);

@@ -1,7 +1,7 @@
 -- Every state after n steps of an accepted sheet is sound, so its next step is never lacking. Assumes nothing.
 use Prim.Native.Nat.{ℕ, zero, suc}
 use native.Mathlib.Omega.{arith}
-use mathlib.Core.Path.{_≡_, refl, sym, ap, _∙_, subst}
+use mathlib.Core.Path.{_≡_, refl, subst}
 use mathlib.Core.List.{List, []}
 use mathlib.Core.Option.{Option, none, some}
 use Rattle.lists.specs.Pairwise.{Pairwise}
@@ -10,10 +10,9 @@ use Rattle.sheet_rules.specs.declared.Verdict.the-variants.{Accepted}
 use Rattle.sheet_rules.specs.Sheet.{Sheet}
 use Rattle.sheet_rules.specs.WellFormed.{WellFormed}
 use Rattle.sheet_rules.specs.Reading.{readable, meaning}
-use Rattle.sheet_rules.proofs.ReadingLaws.{readable-wellFormed}
-use Rattle.type_rules.specs.Typing.{verdictOn, verdict}
+use Rattle.type_rules.specs.Typing.{verdict}
 use Rattle.type_rules.specs.Typed.{Typed}
-use Rattle.type_rules.proofs.TypingLaws.{accepted-typed}
+use Rattle.type_rules.proofs.TypedLaws.{accepted-sheet}
 use Rattle.machine_rules.specs.State.{State, start}
 use Rattle.machine_rules.specs.Step.{Action, Next, finished, step, storeFull, stackFull, lacking, nextStep}
 use Rattle.machine_rules.specs.declared.Outcome.{Outcome}
@@ -62,13 +61,6 @@ module _ (s : Sheet) (w : WellFormed s) (t : Typed s) where
       go : (x : Option State) → ((τ : State) → x ≡ some τ → Sound s τ) → stepFrom s x ≡ some σ → Sound s σ
       go none earlier q = clash (cc)
       go (some τ) earlier q = let x = stateOf-step (nextStep s τ) σ q in step-sound τ σ (x .0) (earlier τ refl) (x .1)
-
--- an accepted text's sheet is well formed and well typed
-pub accepted-sheet : (text : List ℕ) (s : Sheet) → meaning text ≡ readable s → verdict text ≡ Accepted → WellFormed s × Typed s
-unfolding verdict
-accepted-sheet text s e v =
-    let w : WellFormed s = readable-wellFormed text s e in
-    (w, accepted-typed s w (ap verdictOn (sym e) ∙ v))
 
 -- every state after n steps of an accepted text is sound
 pub accepted-sound : (text : List ℕ) (s : Sheet) → meaning text ≡ readable s → verdict text ≡ Accepted

@@ -1,4 +1,4 @@
--- Laws of steps and of the run: the tally, one step at a time, and what a run's answer says of the state after so many steps.
+-- Laws of steps and of the run: the tally, one step at a time, and what a run's answer says of the state after its steps.
 -- Assumes nothing.
 use Prim.Native.Nat.{ℕ, zero, suc, pred, _+_, _≤_, _<_}
 use native.Mathlib.Omega.{arith}
@@ -160,7 +160,7 @@ isFinished storeFull = false
 isFinished stackFull = false
 isFinished lacking = false
 
--- why a run within a budget ended, after so many steps, in a state
+-- why a run within a budget ended, after n steps, in a state
 pub data Why (s : Sheet) (budget n : ℕ) (σ : State) : Outcome → Type 0 where
   done : {v : ℕ} → nextStep s σ ≡ finished v → Why s budget n σ Done
   spent : n ≡ budget → isFinished (nextStep s σ) ≡ false → Why s budget n σ Spent

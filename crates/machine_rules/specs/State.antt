@@ -1,9 +1,9 @@
 -- The states of the machine (document 01, The machine; The sheet, slots). Stands on the sheet.
-use Prim.Native.Nat.{ℕ, suc}
-use mathlib.Core.List.{List, [], _∷_, _++_}
+use Prim.Native.Nat.{ℕ, zero, suc}
+use mathlib.Core.List.{List, [], _∷_, _++_, map}
 use mathlib.Core.Option.{Option, none}
 use lib.ListN.{length, getD}
-use Rattle.sheet_rules.specs.Sheet.{Instr, Part, init, body, Sheet, formAt}
+use Rattle.sheet_rules.specs.Sheet.{Instr, Part, init, body, Sheet, atStart, formAt}
 
 -- an object: its form, its kept values, and the values of its row's fields in the row's order (The machine)
 pub record Object : Type 0 where
@@ -22,14 +22,6 @@ pub record State : Type 0 where
   pub objects : List Object
   pub top : Frame
   pub below : List Frame
-
--- main's first slots: none is filled at the start (The machine)
-abbrev pub mainSlots : Sheet → List ℕ
-mainSlots s = []
-
--- the start: no object, and main's frame (The machine)
-abbrev pub start : Sheet → State
-start s = record { objects = []; top = record { own = none; slots = mainSlots s; code = s .main }; below = [] }
 
 -- how many frames a state has (The machine)
 abbrev pub frameCount : State → ℕ
@@ -52,6 +44,21 @@ initialFields (body is ∷ ps) kept = initialFields ps kept
 -- a new object of form f with its kept values (The machine)
 abbrev pub made : Sheet → ℕ → List ℕ → Object
 made s f kept = record { form = f; kept = kept; fields = initialFields ((formAt s f) .parts) kept }
+
+-- the numbers below n, ascending (The machine)
+abbrev pub numbersBelow : ℕ → List ℕ
+numbersBelow zero = []
+numbersBelow (suc n) = numbersBelow n ++ (n ∷ [])
+
+-- the start: the objects of the forms at the start, none of which keeps a value, and main's frame with their numbers in its first
+-- slots; so there is no object, and no slot is filled (The machine)
+abbrev pub start : Sheet → State
+start s =
+    record {
+      objects = map (λ f. made s f []) atStart;
+      top = record { own = none; slots = numbersBelow (length atStart); code = s .main };
+      below = [];
+    }
 
 -- the last of some slots: a body's value (The machine)
 unfoldable pub lastOf : List ℕ → ℕ

@@ -4,9 +4,9 @@ use mathlib.Core.Bool.{Bool, true, false, cond}
 use mathlib.Core.List.{List}
 use mathlib.Core.Option.{Option, none, some}
 use lib.ListN.{length}
-use Rattle.sheet_rules.specs.Sheet.{Sheet}
+use Rattle.sheet_rules.specs.Sheet.{Sheet, atStart}
 use Rattle.sheet_rules.specs.Reading.{meaning}
-use Rattle.type_rules.specs.Typing.{acceptedOn}
+use Rattle.type_rules.specs.Typing.{typing, acceptedOn}
 use Rattle.machine_rules.specs.declared.Outcome.{Outcome}
 use Rattle.machine_rules.specs.declared.Outcome.the-variants.{Done, Spent, StoreFull, StackFull}
 use Rattle.machine_rules.specs.declared.Tally.{Tally}
@@ -86,9 +86,9 @@ tally steps objects frames = record { steps = steps; objects = objects; frames =
 abbrev pub tallyOf : ℕ → State → Tally
 tallyOf n σ = tally n (length (σ .objects)) (frameCount σ)
 
--- the counts at the start: no step, no object, main's frame (The machine)
+-- the counts at the start: no step, the objects at the start, main's frame (The machine)
 abbrev pub startTally : Tally
-startTally = record { steps = 0; objects = 0; frames = 1 }
+startTally = tally 0 (length atStart) 1
 
 -- the counts after one step more, which made an object (The machine)
 abbrev pub created : Tally → Tally
@@ -142,7 +142,7 @@ goOn stackFull n σ more = ended StackFull n σ
 goOn (step a σ′) n σ more = more σ′
 goOn lacking n σ more = ended Spent n σ
 
--- on from a state, with so many steps left of the budget and so many taken; finished is asked first, then the budget
+-- on from a state, with `left` steps left of the budget and n taken; finished is asked first, then the budget
 -- (The machine)
 unfoldable pub runFrom : Sheet → ℕ → ℕ → State → Ran
 runFrom s zero n σ = ended (budgetUsed (nextStep s σ)) n σ
@@ -184,4 +184,4 @@ answerOf r =
 
 -- what the run question answers for a text and a budget, its buffer left aside: only an accepted sheet is run (The machine)
 unfoldable pub runReply : List ℕ → ℕ → RunReply
-runReply text budget = acceptedOn RunReply.Refused (λ s. RunReply.Ran (answerOf (run s budget))) (meaning text)
+runReply text budget = acceptedOn typing RunReply.Refused (λ s. RunReply.Ran (answerOf (run s budget))) (meaning text)

@@ -2,8 +2,7 @@
 use Prim.Native.Nat.{ℕ, _+_, _*_, _<_}
 use native.Mathlib.Omega.{arith}
 use mathlib.Core.Path.{_≡_}
-use Rattle.table.specs.Layout.{objectAddress, frameAddress}
-use Rattle.machine_state.specs.Held.{slotAddress, keptAddress, fieldAddress}
+use Rattle.table.specs.Layout.{objectAddress, frameAddress, slotAddress, keptAddress, fieldAddress}
 
 pub object-address : (o : ℕ) → o < 256 → 20048 + 17 * o ≡ objectAddress o
 object-address o h = omega arith

@@ -11,12 +11,12 @@ use Rattle.lists.specs.Tab.{tab}
 use Rattle.lists.proofs.TabLaws.{tab-suc, tab-ext, tab-cons, length-tab}
 use Rattle.sheet_rules.specs.Sheet.{Sheet}
 use Rattle.machine_rules.specs.State.{filled as withSlot}
-use Rattle.table.specs.Layout.{objectAddress, frameAddress, workSize}
+use Rattle.table.specs.Layout.{objectAddress, frameAddress, workSize, keptAddress, fieldAddress, slotAddress}
 use Rattle.table.specs.View.{cell, instrIn, instrsIn}
 use Rattle.table.specs.Only.{Only}
 use Rattle.table.proofs.ViewLaws.{SameFrom, SameTable, instrsIn-same, only-trans, only-set}
 use Rattle.machine_state.specs.declared.Top.{Top}
-use Rattle.machine_state.specs.Held.{keptAddress, fieldAddress, slotAddress, keptCount, fieldCount, objectIn, objectsIn, slotsIn, ownFrom, frameFrom, topIn, filled, belowIn, savedPut}
+use Rattle.machine_state.specs.Held.{keptCount, fieldCount, objectIn, objectsIn, slotsIn, ownFrom, frameFrom, topIn, filled, belowIn, savedPut}
 
 -- an object depends on the 17 numbers of its block alone
 

@@ -11,11 +11,11 @@ use Rattle.lists.proofs.TabLaws.{tab-suc, tab-ext, tab-set, tab-is}
 use Rattle.sheet_rules.specs.Sheet.{Sheet, formAt}
 use Rattle.machine_rules.specs.State.{Object, initialFields, made}
 use Rattle.machine_rules.specs.Step.{withField}
-use Rattle.table.specs.Layout.{objectAddress, workSize}
+use Rattle.table.specs.Layout.{objectAddress, workSize, keptAddress, fieldAddress}
 use Rattle.table.specs.View.{cell}
 use Rattle.table.specs.Only.{Only}
 use Rattle.table.proofs.ViewLaws.{SameFrom, only-set}
-use Rattle.machine_state.specs.Held.{keptAddress, fieldAddress, keptCount, fieldCount, objectIn, objectsIn}
+use Rattle.machine_state.specs.Held.{keptCount, fieldCount, objectIn, objectsIn}
 use Rattle.machine_state.proofs.HeldLaws.{object-same}
 
 -- a buffer that is changed in object o's block alone has its other objects as they were

@@ -9,20 +9,9 @@ use Rattle.sheet_rules.specs.Sheet.{Sheet, formAt, rowOfForm}
 use Rattle.machine_rules.specs.State.{Object, Frame, State}
 use Rattle.machine_rules.specs.Sound.{fieldRows}
 use Rattle.machine_rules.specs.declared.Tally.{Tally}
-use Rattle.table.specs.Layout.{objectAddress, frameAddress}
+use Rattle.table.specs.Layout.{objectAddress, frameAddress, keptAddress, fieldAddress, slotAddress}
 use Rattle.table.specs.View.{cell, instrsIn}
 use Rattle.machine_state.specs.declared.Top.{Top}
-
--- kept value i of object o, and its field i, counted among its fields
-abbrev pub keptAddress : ℕ → ℕ → ℕ
-keptAddress o i = objectAddress o + (1 + min i 7)
-
-abbrev pub fieldAddress : ℕ → ℕ → ℕ
-fieldAddress o i = objectAddress o + (9 + min i 7)
-
--- slot v of frame f
-abbrev pub slotAddress : ℕ → ℕ → ℕ
-slotAddress f v = frameAddress f + (4 + min v 43)
 
 -- how many values an object of form f keeps, and how many fields it has
 abbrev pub keptCount : Sheet → ℕ → ℕ

@@ -3,9 +3,9 @@
 ghost use mathlib.Core.Path.{_≡_};
 ghost use Prim.Native.Nat.{_≤_, _<_};
 ghost use lib.ListN.{length, set};
-ghost use Rattle.table.specs.Layout.{objectAddress, workSize};
+ghost use Rattle.table.specs.Layout.{objectAddress, workSize, slotAddress, keptAddress, fieldAddress};
 ghost use Rattle.table.specs.View.{cell as cellOf};
-ghost use Rattle.machine_state.specs.Held.{slotAddress, keptAddress, fieldAddress, topIn, savedPut};
+ghost use Rattle.machine_state.specs.Held.{topIn, savedPut};
 use table::rows::wide;
 
 // Where the frame in hand stands: its receiver's number plus one (0 in main), how many of its slots are filled, the place of its

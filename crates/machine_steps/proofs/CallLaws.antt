@@ -18,15 +18,15 @@ use Rattle.machine_rules.specs.Steps.{called}
 use Rattle.machine_rules.specs.Sound.{Receives}
 use Rattle.machine_rules.proofs.TakenLaws.{take-call}
 use Rattle.machine_rules.proofs.ReadyLaws.{CallReady, ready-call}
-use Rattle.table.specs.Layout.{partAddress, fitAddress, objectAddress, frameAddress, stateEnd, workSize}
+use Rattle.table.specs.Layout.{partAddress, placeAddress, objectAddress, frameAddress, stateEnd, workSize, keptAddress, slotAddress}
 use Rattle.table.specs.View.{cell, instrsIn, sheetIn}
 use Rattle.table.specs.Only.{Only}
 use Rattle.table.specs.Pool.{FormEnds}
 use Rattle.table.proofs.SheetLaws.{forms-length}
 use Rattle.table.proofs.ViewLaws.{SameTable, only-trans, only-widen, instrsIn-same}
-use Rattle.member_places.specs.Located.{BodyAt}
+use Rattle.machine_places.specs.Located.{BodyAt}
 use Rattle.machine_state.specs.declared.Top.{Top}
-use Rattle.machine_state.specs.Held.{keptAddress, slotAddress, keptCount, objectIn, objectsIn, ownFrom, slotsIn, frameFrom, topIn, past, belowIn, stateIn, savedPut}
+use Rattle.machine_state.specs.Held.{keptCount, objectIn, objectsIn, ownFrom, slotsIn, frameFrom, topIn, past, belowIn, stateIn, savedPut}
 use Rattle.machine_state.proofs.HeldLaws.{objects-same, frame-same, top-same, below-same, objects-count, slots-count, saved-only, saved-top}
 use Rattle.machine_steps.specs.Entered.{Entered}
 use Rattle.machine_steps.specs.Running.{Facing, Took}
@@ -40,7 +40,7 @@ own-bounded (suc o) (Receives.object h e) = h
 module _ (w : List ℕ) (t : Top) (k : Tally) (v n a : ℕ) (x : Facing w t k (call v n a)) where
   ready : CallReady (sheetIn w) (stateIn (sheetIn w) w t k) v n a
   ready =
-      ready-call (sheetIn w) (x .running .whole .sheet) (x .running .typed) (stateIn (sheetIn w) w t k) (x .running .sound) (instrsIn w (t .next + 1) (t .end - (t .next + 1))) v n a (code-is w t k (call v n a) x)
+      ready-call (sheetIn w) (x .running .accepted .whole .sheet) (x .running .accepted .typed) (stateIn (sheetIn w) w t k) (x .running .sound) (instrsIn w (t .next + 1) (t .end - (t .next + 1))) v n a (code-is w t k (call v n a) x)
 
   pub object-filled : v < t .filled
   object-filled = omega (arith, ready .object, slots-count w (pred (k .frames)) (t .filled))
@@ -100,12 +100,12 @@ module _ (w : List ℕ) (t : Top) (k : Tally) (v n a : ℕ) (x : Facing w t k (c
           subst (λ (y : ℕ). bodyIn ((rowOfForm (sheetIn w) y) .members) ((formAt (sheetIn w) y) .parts) n ≡ some (ready .code)) callee-is (ready .lookedUp)
 
       -- the body
-      module _ (part : ℕ) (ep : part ≡ cell w (fitAddress form n)) where
+      module _ (part : ℕ) (ep : part ≡ cell w (placeAddress form n)) where
         body-at : BodyAt w form part (ready .code)
         body-at = subst (λ (y : ℕ). BodyAt w form y (ready .code)) (sym ep) (x .running .located .bodies form n (ready .code) form-in looked-up)
 
         form-ends : FormEnds w form 1024
-        form-ends = x .running .placed .forms form (omega (arith, form-in, forms-length w))
+        form-ends = x .running .accepted .placed .forms form (omega (arith, form-in, forms-length w))
 
         pub part-small : part < 8
         part-small = omega (arith, body-at .inside, form-ends .few)

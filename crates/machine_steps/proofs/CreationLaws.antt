@@ -16,13 +16,12 @@ use Rattle.sheet_rules.specs.Sheet.{Part, init, body}
 use Rattle.sheet_rules.specs.WellFormed.{PartOf}
 use Rattle.machine_rules.specs.State.{initialFields}
 use Rattle.machine_rules.specs.Sound.{fieldRows}
-use Rattle.table.specs.Layout.{formAddress, instrAddress, objectAddress, workSize}
+use Rattle.table.specs.Layout.{formAddress, instrAddress, objectAddress, workSize, keptAddress, fieldAddress, slotAddress}
 use Rattle.table.specs.View.{cell, instrsIn, partIn, partsIn}
 use Rattle.table.specs.Told.{newSlots, partTold}
 use Rattle.table.specs.Only.{Only}
 use Rattle.table.specs.declared.forms.PartPlace.{PartPlace}
 use Rattle.table.proofs.ViewLaws.{SameTable, only-refl, only-trans, only-set, only→same, partIn-same}
-use Rattle.machine_state.specs.Held.{keptAddress, fieldAddress, slotAddress}
 use Rattle.machine_steps.specs.Created.{Keepable, KeptFrom, PartStarts, FormStarts, startPut, startCount, fieldsStarted}
 
 -- THE KEPT VALUES

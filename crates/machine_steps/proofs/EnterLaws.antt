@@ -6,11 +6,10 @@ use mathlib.Core.Path.{_≡_, sym, ap, _∙_, subst}
 use mathlib.Core.List.{List}
 use lib.ListN.{length, set, length-set}
 use lib.Seq.{getD-set-same, getD-set-other}
-use Rattle.table.specs.Layout.{workSize}
+use Rattle.table.specs.Layout.{workSize, keptAddress, slotAddress}
 use Rattle.table.specs.View.{cell}
 use Rattle.table.specs.Only.{Only}
 use Rattle.table.proofs.ViewLaws.{only-refl, only-trans, only-widen, only-set}
-use Rattle.machine_state.specs.Held.{keptAddress, slotAddress}
 use Rattle.machine_steps.specs.Entered.{KeptCopied, Entered}
 
 module _ (w : List ℕ) (f o : ℕ) where

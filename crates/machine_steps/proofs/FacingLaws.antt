@@ -11,12 +11,12 @@ use Rattle.machine_rules.specs.declared.Tally.{Tally}
 use Rattle.machine_rules.specs.State.{frameCount, noObject, objectAt, lastOf, filled as withSlot}
 use Rattle.machine_rules.specs.Step.{Action, step, nextStep, movedOn}
 use Rattle.machine_rules.proofs.FoundLaws.{lastOf-at}
-use Rattle.table.specs.Layout.{objectAddress, frameAddress, stateEnd, workSize}
+use Rattle.table.specs.Layout.{objectAddress, frameAddress, stateEnd, workSize, slotAddress}
 use Rattle.table.specs.View.{cell, instrsIn, sheetIn}
 use Rattle.table.specs.Only.{Only}
 use Rattle.table.proofs.ViewLaws.{SameTable, only-trans, only-widen, only-set}
 use Rattle.machine_state.specs.declared.Top.{Top}
-use Rattle.machine_state.specs.Held.{slotAddress, objectIn, objectsIn, slotsIn, frameFrom, belowIn, past, filled, stateIn}
+use Rattle.machine_state.specs.Held.{objectIn, objectsIn, slotsIn, frameFrom, belowIn, past, filled, stateIn}
 use Rattle.machine_state.proofs.HeldLaws.{objects-same, below-same, slot-added, code-next, objects-count, slots-count, code-count, below-count}
 use Rattle.machine_steps.specs.Running.{Running, Facing, Took}
 
@@ -37,7 +37,7 @@ module _ (w : List ℕ) (t : Top) (k : Tally) (r : Running w t k) where
   room = omega (arith, slots-count w (pred (k .frames)) (t .filled), code-count w (t .next) (t .end), r .sound .room)
 
   pub size : workSize ≤ length w
-  size = r .whole .size
+  size = r .accepted .whole .size
 
   -- a filled slot, and that it holds an object
   pub slot-is : (v : ℕ) → v < t .filled → getD (slotsIn w (pred (k .frames)) (t .filled)) v 0 ≡ cell w (slotAddress (pred (k .frames)) v)

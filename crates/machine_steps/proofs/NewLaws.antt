@@ -16,14 +16,14 @@ use Rattle.machine_rules.specs.Step.{creates, step, movedOn, slotValues}
 use Rattle.machine_rules.specs.Steps.{created}
 use Rattle.machine_rules.proofs.TakenLaws.{take-new}
 use Rattle.machine_rules.proofs.ReadyLaws.{NewReady, ready-new}
-use Rattle.table.specs.Layout.{formAddress, objectAddress, workSize}
+use Rattle.table.specs.Layout.{formAddress, objectAddress, workSize, keptAddress, fieldAddress, slotAddress}
 use Rattle.table.specs.View.{cell, instrsIn, partIn, partsIn, sheetIn}
 use Rattle.table.specs.Told.{newSlots}
 use Rattle.table.specs.Only.{Only}
 use Rattle.table.proofs.ViewLaws.{SameTable, only-trans, only-widen, only-set, only→same, partIn-same, sheetIn-same}
 use Rattle.table.proofs.SheetLaws.{form-well, parts-are, parts-pairwise, parts-length, part-there}
 use Rattle.machine_state.specs.declared.Top.{Top}
-use Rattle.machine_state.specs.Held.{keptAddress, fieldAddress, slotAddress, objectsIn, slotsIn, past, filled, stateIn}
+use Rattle.machine_state.specs.Held.{objectsIn, slotsIn, past, filled, stateIn}
 use Rattle.machine_state.proofs.HeldLaws.{objects-count, slots-count}
 use Rattle.machine_state.proofs.ObjectLaws.{MadeAt, made-there, objects-more}
 use Rattle.machine_steps.specs.Running.{Facing, Took}
@@ -50,7 +50,7 @@ module _ (w : List ℕ) (t : Top) (k : Tally) (form : ℕ) (a : Facing w t k (ne
 
   ready : NewReady (sheetIn w) (stateIn (sheetIn w) w t k) form named
   ready =
-      ready-new (sheetIn w) (a .running .whole .sheet) (stateIn (sheetIn w) w t k) (a .running .sound) (instrsIn w (t .next + 1) (t .end - (t .next + 1))) form named
+      ready-new (sheetIn w) (a .running .accepted .whole .sheet) (stateIn (sheetIn w) w t k) (a .running .sound) (instrsIn w (t .next + 1) (t .end - (t .next + 1))) form named
       (code-is w t k (new form named) a)
 
   -- its form is there, by any name of its number
@@ -65,8 +65,8 @@ module _ (w : List ℕ) (t : Top) (k : Tally) (form : ℕ) (a : Facing w t k (ne
 
   parts-few : length parts ≤ 8
   parts-few =
-      let members = a .running .whole .sheet .rows ((formAt (sheetIn w) form) .row) .few in
-      omega (arith, parts-length w (a .running .whole) form (ready .form), members)
+      let members = a .running .accepted .whole .sheet .rows ((formAt (sheetIn w) form) .row) .few in
+      omega (arith, parts-length w (a .running .accepted .whole) form (ready .form), members)
 
   module _ (f : ℕ) (ef : f ≡ pred (k .frames)) (o : ℕ) (eo : o ≡ k .objects) (w₁ : List ℕ) (e₁ : w₁ ≡ set w (objectAddress o) form) where
     only₁ : Only (objectAddress o) (objectAddress o + 1) w w₁
@@ -109,19 +109,19 @@ module _ (w : List ℕ) (t : Top) (k : Tally) (form : ℕ) (a : Facing w t k (ne
       parts-count = sym (length-tab (partIn w₂ g) (cell w₂ (formAddress g + 2))) ∙ ap length parts₂
 
       part-is : (j : ℕ) → j < length parts → getD parts j (init 0) ≡ partIn w₂ g j
-      part-is j h = part-there w (a .running .whole) form (ready .form) j h ∙ sym (partIn-same w w₂ same₂ form j) ∙ ap (λ (x : ℕ). partIn w₂ x j) (sym eg)
+      part-is j h = part-there w (a .running .accepted .whole) form (ready .form) j h ∙ sym (partIn-same w w₂ same₂ form j) ∙ ap (λ (x : ℕ). partIn w₂ x j) (sym eg)
 
       -- the values are kept, and the fields can be started
       pub starts : FormStarts w₂ g o
       starts =
           record {
-            form = omega (arith, eg, ready .form, a .running .whole .sheet .fewForms);
+            form = omega (arith, eg, ready .form, a .running .accepted .whole .sheet .fewForms);
             object = omega arith;
             parts = omega (arith, parts-count, parts-few);
             kept = λ j i h e.
                 (let l : j < length parts = omega (arith, parts-count) in
                 let there : In (init i) parts = subst (λ (x : Part). In x parts) (part-is j l ∙ e) (in-getD parts j (init 0) l) in
-                omega (arith, ready .starts i there, (form-well w (a .running .whole) form (ready .form)) .few));
+                omega (arith, ready .starts i there, (form-well w (a .running .accepted .whole) form (ready .form)) .few));
             size = omega (arith, only₂ .size, size w t k (a .running));
           }
 
@@ -160,7 +160,7 @@ module _ (w : List ℕ) (t : Top) (k : Tally) (form : ℕ) (a : Facing w t k (ne
                   ∙ getD-set-same w (objectAddress o) form 0 (omega (arith, size w t k (a .running)));
               count = kept-count ∙ ready .count;
               values = λ i h. only-fields .below (keptAddress o i) (omega arith) ∙ kept₂ i h;
-              fields = starts-count kept (parts-pairwise w (a .running .whole) form (ready .form));
+              fields = starts-count kept (parts-pairwise w (a .running .accepted .whole) form (ready .form));
               starts = λ i h.
                   (ap (λ (x : List ℕ). cell x (fieldAddress o i)) started
                   ∙ ap (λ (x : ℕ). cell (fieldsStarted w₂ o parts 0) (fieldAddress o x)) (sym (zero-add i))

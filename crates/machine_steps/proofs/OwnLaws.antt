@@ -15,11 +15,11 @@ use Rattle.machine_rules.specs.Steps.{worked}
 use Rattle.machine_rules.proofs.BoundsLaws.{object-bounded}
 use Rattle.machine_rules.proofs.TakenLaws.{take-copy, take-get, take-put}
 use Rattle.machine_rules.proofs.ReadyLaws.{OwnReady, ready-copy, ready-get, ready-put}
-use Rattle.table.specs.Layout.{objectAddress, frameAddress, fitAddress}
+use Rattle.table.specs.Layout.{objectAddress, frameAddress, placeAddress, fieldAddress, slotAddress}
 use Rattle.table.specs.View.{cell, instrsIn, sheetIn}
 use Rattle.table.proofs.ViewLaws.{only-refl, only-widen}
 use Rattle.machine_state.specs.declared.Top.{Top}
-use Rattle.machine_state.specs.Held.{fieldAddress, slotAddress, fieldCount, objectIn, objectsIn, slotsIn, ownFrom, past, filled, stateIn}
+use Rattle.machine_state.specs.Held.{fieldCount, objectIn, objectsIn, slotsIn, ownFrom, past, filled, stateIn}
 use Rattle.machine_state.proofs.HeldLaws.{objects-count, slots-count}
 use Rattle.machine_state.proofs.ObjectLaws.{field-only, field-put}
 use Rattle.machine_steps.specs.Running.{Running, Facing, Took}
@@ -38,10 +38,10 @@ module _ (w : List ℕ) (t : Top) (k : Tally) (r : Running w t k) where
   pub form-there : (o : ℕ) → o < k .objects → cell w (objectAddress o) < length ((sheetIn w) .forms)
   form-there o h =
       subst (λ (f : ℕ). f < length ((sheetIn w) .forms)) (form-is o h)
-      ((object-bounded (sheetIn w) (r .whole .sheet) (stateIn (sheetIn w) w t k) (r .sound) o (omega (arith, objects-count (sheetIn w) w (k .objects)))) .form)
+      ((object-bounded (sheetIn w) (r .accepted .whole .sheet) (stateIn (sheetIn w) w t k) (r .sound) o (omega (arith, objects-count (sheetIn w) w (k .objects)))) .form)
 
   pub form-small : (o : ℕ) → o < k .objects → cell w (objectAddress o) < 64
-  form-small o h = omega (arith, form-there o h, r .whole .sheet .fewForms)
+  form-small o h = omega (arith, form-there o h, r .accepted .whole .sheet .fewForms)
 
   fields-are : (o : ℕ) → o < k .objects → (objectAt (objectsIn (sheetIn w) w (k .objects)) o) .fields ≡ (objectIn (sheetIn w) w o) .fields
   fields-are o h = ap (λ (x : Object). x .fields) (object-is w t k r o h)
@@ -56,7 +56,7 @@ module _ (w : List ℕ) (t : Top) (k : Tally) (r : Running w t k) where
 
   fields-few : (o : ℕ) → o < k .objects → fieldCount (sheetIn w) (cell w (objectAddress o)) ≤ 8
   fields-few o h =
-      let few = (object-bounded (sheetIn w) (r .whole .sheet) (stateIn (sheetIn w) w t k) (r .sound) o (omega (arith, objects-count (sheetIn w) w (k .objects)))) .fields in
+      let few = (object-bounded (sheetIn w) (r .accepted .whole .sheet) (stateIn (sheetIn w) w t k) (r .sound) o (omega (arith, objects-count (sheetIn w) w (k .objects)))) .fields in
       omega (arith, few, ap length (fields-are o h), fields-count o)
 
   -- the own object's field of name n
@@ -91,9 +91,9 @@ module _ (w : List ℕ) (t : Top) (k : Tally) (r : Running w t k) where
         pub f-small : f < 64
         f-small = omega (arith, ef, form-small o o-made)
 
-        module _ (p : ℕ) (ep : p ≡ cell w (fitAddress f n)) where
+        module _ (p : ℕ) (ep : p ≡ cell w (placeAddress f n)) where
           p-is : p ≡ q .place
-          p-is = ep ∙ ap (λ (x : ℕ). cell w (fitAddress x n)) ef ∙ r .located .fields (cell w (objectAddress o)) n (q .place) (form-there o o-made) looked-up
+          p-is = ep ∙ ap (λ (x : ℕ). cell w (placeAddress x n)) ef ∙ r .located .fields (cell w (objectAddress o)) n (q .place) (form-there o o-made) looked-up
 
           p-inside : p < fieldCount (sheetIn w) (cell w (objectAddress o))
           p-inside =
@@ -126,12 +126,12 @@ module _ (w : List ℕ) (t : Top) (k : Tally) where
   module _ (n : ℕ) (a : Facing w t k (get n)) where
     pub get-ready : OwnReady (sheetIn w) (stateIn (sheetIn w) w t k) n
     get-ready =
-        ready-get (sheetIn w) (a .running .whole .sheet) (stateIn (sheetIn w) w t k) (a .running .sound) (instrsIn w (t .next + 1) (t .end - (t .next + 1))) n (code-is w t k (get n) a)
+        ready-get (sheetIn w) (a .running .accepted .whole .sheet) (stateIn (sheetIn w) w t k) (a .running .sound) (instrsIn w (t .next + 1) (t .end - (t .next + 1))) n (code-is w t k (get n) a)
 
   module _ (n v : ℕ) (a : Facing w t k (put n v)) where
     both : OwnReady (sheetIn w) (stateIn (sheetIn w) w t k) n × (v < length (slotsIn w (pred (k .frames)) (t .filled)))
     both =
-        ready-put (sheetIn w) (a .running .whole .sheet) (stateIn (sheetIn w) w t k) (a .running .sound) (instrsIn w (t .next + 1) (t .end - (t .next + 1))) n v (code-is w t k (put n v) a)
+        ready-put (sheetIn w) (a .running .accepted .whole .sheet) (stateIn (sheetIn w) w t k) (a .running .sound) (instrsIn w (t .next + 1) (t .end - (t .next + 1))) n v (code-is w t k (put n v) a)
 
     pub put-ready : OwnReady (sheetIn w) (stateIn (sheetIn w) w t k) n
     put-ready = both .0
@@ -154,7 +154,7 @@ module _ (w : List ℕ) (t : Top) (k : Tally) (f : ℕ) (ef : f ≡ pred (k .fra
 
   -- `get`
   module _ (n : ℕ) (a : Facing w t k (get n)) where
-    pub get-took : (o : ℕ) (eo : o ≡ t .own - 1) (form : ℕ) (em : form ≡ cell w (objectAddress o)) (p : ℕ) (ep : p ≡ cell w (fitAddress form n))
+    pub get-took : (o : ℕ) (eo : o ≡ t .own - 1) (form : ℕ) (em : form ≡ cell w (objectAddress o)) (p : ℕ) (ep : p ≡ cell w (placeAddress form n))
         → (x : ℕ) → x ≡ cell w (fieldAddress o p) → w′ ≡ set w (slotAddress f (t .filled)) x → Took w t k w′ t′ (worked k)
     get-took o eo form em p ep x ex ew =
         subst (λ (y : Top). Took w t k w′ y (worked k)) (sym et)
@@ -165,7 +165,7 @@ module _ (w : List ℕ) (t : Top) (k : Tally) (f : ℕ) (ef : f ≡ pred (k .fra
 
   -- `put`
   module _ (n v : ℕ) (a : Facing w t k (put n v)) where
-    pub put-took : (o : ℕ) (eo : o ≡ t .own - 1) (form : ℕ) (em : form ≡ cell w (objectAddress o)) (p : ℕ) (ep : p ≡ cell w (fitAddress form n))
+    pub put-took : (o : ℕ) (eo : o ≡ t .own - 1) (form : ℕ) (em : form ≡ cell w (objectAddress o)) (p : ℕ) (ep : p ≡ cell w (placeAddress form n))
         → (x : ℕ) → x ≡ cell w (slotAddress f v) → (w₁ : List ℕ) → w₁ ≡ set w (fieldAddress o p) x → w′ ≡ set w₁ (slotAddress f (t .filled)) x → Took w t k w′ t′ (worked k)
     put-took o eo form em p ep x ex w₁ e₁ ew =
         subst (λ (y : Top). Took w t k w′ y (worked k)) (sym et)

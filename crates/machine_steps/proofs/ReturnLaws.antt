@@ -13,12 +13,12 @@ use Rattle.machine_rules.specs.Steps.{returned}
 use Rattle.machine_rules.proofs.BoundsLaws.{frame-bounded}
 use Rattle.machine_rules.proofs.TakenLaws.{take-return}
 use Rattle.machine_rules.proofs.ReadyLaws.{ready-end}
-use Rattle.table.specs.Layout.{objectAddress, frameAddress, stateEnd}
+use Rattle.table.specs.Layout.{objectAddress, frameAddress, stateEnd, slotAddress}
 use Rattle.table.specs.View.{cell, sheetIn}
 use Rattle.table.specs.Only.{Only}
 use Rattle.table.proofs.ViewLaws.{SameTable, only-set}
 use Rattle.machine_state.specs.declared.Top.{Top}
-use Rattle.machine_state.specs.Held.{slotAddress, objectsIn, slotsIn, frameFrom, topIn, filled, belowIn, stateIn}
+use Rattle.machine_state.specs.Held.{objectsIn, slotsIn, frameFrom, topIn, filled, belowIn, stateIn}
 use Rattle.machine_state.proofs.HeldLaws.{objects-same, below-same, slot-added, code-end, below-next, slots-count}
 use Rattle.machine_steps.specs.Running.{Running, Took}
 use Rattle.machine_steps.proofs.FacingLaws.{frames-few, size, last-is}
@@ -30,7 +30,7 @@ module _ (w : List ℕ) (t : Top) (k : Tally) (r : Running w t k) (ended : t .en
 
   pub last-small : t .filled ≤ 42
   last-small =
-      omega (arith, (frame-bounded (sheetIn w) (r .whole .sheet) (stateIn (sheetIn w) w t k) (r .sound) (frameFrom w (pred (k .frames)) t) (In.here refl)) .slots, slots-count w (pred (k .frames)) (t .filled))
+      omega (arith, (frame-bounded (sheetIn w) (r .accepted .whole .sheet) (stateIn (sheetIn w) w t k) (r .sound) (frameFrom w (pred (k .frames)) t) (In.here refl)) .slots, slots-count w (pred (k .frames)) (t .filled))
 
   -- the frame below, and those below it
   module _ (d : ℕ) (is-below : pred (k .frames) ≡ suc d) where
@@ -42,7 +42,7 @@ module _ (w : List ℕ) (t : Top) (k : Tally) (r : Running w t k) (ended : t .en
 
     pub below-small : (topIn w d) .filled ≤ 42
     below-small =
-        let b = frame-bounded (sheetIn w) (r .whole .sheet) (stateIn (sheetIn w) w t k) (r .sound) (frameFrom w d (topIn w d))
+        let b = frame-bounded (sheetIn w) (r .accepted .whole .sheet) (stateIn (sheetIn w) w t k) (r .sound) (frameFrom w d (topIn w d))
         (In.there (subst (In (frameFrom w d (topIn w d))) (sym below-are) (In.here refl))) in
         omega (arith, b .slots, slots-count w d ((topIn w d) .filled))
 

@@ -4,14 +4,13 @@ use mathlib.Core.Path.{_≡_}
 use mathlib.Core.List.{List, [], _∷_}
 use lib.ListN.{length, getD, set}
 use Rattle.sheet_rules.specs.Sheet.{Part, init, body}
-use Rattle.table.specs.Layout.{formAddress, workSize}
+use Rattle.table.specs.Layout.{formAddress, workSize, keptAddress, fieldAddress, slotAddress}
 use Rattle.table.specs.View.{cell, partIn}
 use Rattle.table.specs.Told.{newSlots}
 use Rattle.table.specs.Only.{Only}
-use Rattle.machine_state.specs.Held.{keptAddress, fieldAddress, slotAddress}
 
 -- what it takes to keep values of frame f in object o: everything in range, and so every slot that the `new` at place p names,
--- which are so many
+-- which are `count`
 pub record Keepable (w : List ℕ) (f p o count : ℕ) : Type 0 where
   pub frame : f < 64
   pub place : p < 1024

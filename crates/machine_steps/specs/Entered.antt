@@ -2,9 +2,9 @@
 use Prim.Native.Nat.{ℕ, _+_, _<_}
 use mathlib.Core.Path.{_≡_}
 use mathlib.Core.List.{List}
+use Rattle.table.specs.Layout.{keptAddress, slotAddress}
 use Rattle.table.specs.View.{cell}
 use Rattle.table.specs.Only.{Only}
-use Rattle.machine_state.specs.Held.{keptAddress, slotAddress}
 
 -- the first values that object o keeps stand in the slots of frame f, after its first two
 pub record KeptCopied (w w′ : List ℕ) (f o count : ℕ) : Type 0 where

@@ -3,16 +3,14 @@ use Prim.Native.Nat.{ℕ, suc, _+_, _≤_, _<_}
 use mathlib.Core.Path.{_≡_}
 use mathlib.Core.List.{List}
 use Rattle.sheet_rules.specs.Sheet.{Instr}
-use Rattle.type_rules.specs.Typed.{Typed}
 use Rattle.machine_rules.specs.declared.Tally.{Tally}
 use Rattle.machine_rules.specs.Step.{Action, step, nextStep}
 use Rattle.machine_rules.specs.Sound.{Sound}
 use Rattle.table.specs.Layout.{objectAddress, frameAddress, stateEnd}
 use Rattle.table.specs.View.{cell, instrIn, sheetIn}
 use Rattle.table.specs.Only.{Only}
-use Rattle.table.specs.Pool.{Placed}
-use Rattle.table.specs.Whole.{Whole}
-use Rattle.member_places.specs.Located.{Located}
+use Rattle.accepted.specs.Accepted.{AcceptedIn}
+use Rattle.machine_places.specs.Located.{Located}
 use Rattle.machine_state.specs.declared.Top.{Top}
 use Rattle.machine_state.specs.Held.{stateIn}
 
@@ -22,12 +20,9 @@ pub record Ending (w : List ℕ) (t : Top) (k : Tally) : Type 0 where
   pub top : t .end ≤ 1024
   pub below : (f : ℕ) → suc f < k .frames → cell w (frameAddress f + 3) ≤ 1024
 
--- a buffer whose sheet is well formed and well typed, with all instructions in the pool and the members located, and which holds
--- a sound state
+-- a buffer that holds an accepted sheet, with the members located, and a sound state
 pub record Running (w : List ℕ) (t : Top) (k : Tally) : Type 0 where
-  pub whole : Whole w
-  pub typed : Typed (sheetIn w)
-  pub placed : Placed w
+  pub accepted : AcceptedIn w
   pub located : Located w
   pub sound : Sound (sheetIn w) (stateIn (sheetIn w) w t k)
   pub ending : Ending w t k

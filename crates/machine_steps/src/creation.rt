@@ -25,7 +25,7 @@ use table::forms::part_count;
 use table::instrs::slot_named;
 use table::rows::wide;
 
-// Keeps in object o the value of each slot of frame f that the `new` at place p names, which are so many.
+// Keeps in object o the value of each slot of frame f that the `new` at place p names, `count` of them.
 fn keep_values(work: &mut [u16], f: usize, p: usize, o: usize, count: usize)
     requires { ⌜ Keepable (now work) f p o count ⌝ }
     ensures { λ r. ⌜ KeptFrom (now (work .entry)) f p o (now (work .exit)) ⌝ }
@@ -42,7 +42,7 @@ fn keep_values(work: &mut [u16], f: usize, p: usize, o: usize, count: usize)
     }
 }
 
-// Does part j of object o's form, where so many fields come before it: an `init` puts its kept value into the next field.
+// Does part j of object o's form, where `fields` fields come before it: an `init` puts its kept value into the next field.
 // Answers how many fields there are up to it.
 fn start_field(work: &mut [u16], form: usize, o: usize, j: usize, fields: usize) -> usize
     requires { ⌜ PartStarts (now work) form o j fields ⌝ }

@@ -71,7 +71,7 @@ pub fn call_step(work: &mut [u16], top: Top, tally: Tally, v: usize, n: usize, a
     let own = slot(work, f, v);
     let argument = slot(work, f, a);
     let form = form_of(work, wide(own));
-    let part = member_places::place(work, form, n);
+    let part = machine_places::place(work, form, n);
     let start = table::forms::body_start(work, form, part);
     let end = start + table::forms::body_count(work, form, part);
     let count = table::forms::keeps_of(work, form);

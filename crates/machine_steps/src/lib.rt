@@ -5,8 +5,8 @@ ghost use Prim.Native.Nat.{pred, _≤_, _<_};
 ghost use lib.ListN.{length, set};
 ghost use Rattle.sheet_rules.specs.Sheet.{copy, get, put};
 ghost use Rattle.machine_rules.specs.Steps.{worked};
-ghost use Rattle.table.specs.Layout.{workSize};
-ghost use Rattle.machine_state.specs.Held.{slotAddress, past, filled as filledTop};
+ghost use Rattle.table.specs.Layout.{workSize, slotAddress};
+ghost use Rattle.machine_state.specs.Held.{past, filled as filledTop};
 ghost use Rattle.machine_steps.specs.Running.{Facing, Took};
 use machine_rules::Tally;
 use machine_state::Top;
@@ -57,7 +57,7 @@ pub fn get_step(work: &mut [u16], top: Top, tally: Tally, n: usize) -> Top
     ensures { λ r. ⌜ Took (now (work .entry)) top tally (now (work .exit)) r (worked tally) ⌝ }
 {
     let o = top.own - 1;
-    let place = member_places::place(work, form_of(work, o), n);
+    let place = machine_places::place(work, form_of(work, o), n);
     let value = field(work, o, place);
     fill_slot(work, frame_of(tally), top, value)
 }
@@ -69,7 +69,7 @@ pub fn put_step(work: &mut [u16], top: Top, tally: Tally, n: usize, v: usize) ->
 {
     let f = frame_of(tally);
     let o = top.own - 1;
-    let place = member_places::place(work, form_of(work, o), n);
+    let place = machine_places::place(work, form_of(work, o), n);
     let value = slot(work, f, v);
     put_field(work, o, place, value);
     fill_slot(work, f, top, value)

@@ -30,7 +30,7 @@ use Rattle.line_reader.specs.declared.LineTaken.{LineTaken}
 use Rattle.line_reader.specs.declared.Wanted.{Wanted}
 use Rattle.line_reader.specs.declared.Progress.{Progress}
 use Rattle.line_reader.specs.Told.{number, LineTold, readTold, stoppedBy, Advanced}
-use Rattle.read_loop.proofs.ThenLaws.{line-then, line-stop, line-gives, past, past-room, advanced-sooner}
+use Rattle.reader_loop.proofs.ThenLaws.{line-then, line-stop, line-gives, past, past-room, advanced-sooner}
 use Rattle.instr_reader.specs.Reads.{InstrsRead}
 use Rattle.part_reader.specs.declared.PoolProgress.{PoolProgress}
 use Rattle.part_reader.specs.Reads.{pooled, plain, PartUsed, PartRead, fieldPart, bodyRest, methodPart}

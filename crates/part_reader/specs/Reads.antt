@@ -10,7 +10,7 @@ use Rattle.table.specs.Layout.{partAddress, tableEnd}
 use Rattle.table.specs.View.{partIn}
 use Rattle.table.specs.Pool.{OnlyFrom, partEnd}
 use Rattle.line_reader.specs.declared.Progress.{Progress}
-use Rattle.read_loop.specs.Items.{ItemRead}
+use Rattle.reader_loop.specs.Items.{ItemRead}
 use Rattle.part_reader.specs.declared.PoolProgress.{PoolProgress}
 
 -- progress with and without how many instructions are used
@@ -28,7 +28,7 @@ pub record PartUsed (w : List ℕ) (f j used u : ℕ) : Type 0 where
   pub few : u ≤ 1024
   pub ends : partEnd w f j ≤ u
 
--- part j of form f, read by a reader of parts, after so many instructions
+-- part j of form f, read by a reader of parts, after `used` instructions
 pub record PartRead (text : List ℕ) (f j used : ℕ) (part : Reader Part) (at n : ℕ) (w w′ : List ℕ) (p : PoolProgress) : Type 0 where
   pub read : ItemRead text part (λ x. partIn x f j) (partAddress f j) tableEnd at n w w′ (plain p)
   pub from : OnlyFrom (partAddress f j) used w w′

@@ -20,7 +20,7 @@ pub enum PoolProgress {
     Refused { reason: Reason, line: u32 },
 }
 
-// Progress, with so many instructions used.
+// Progress, with `used` instructions used.
 pub fn pool_progress(progress: Progress, used: u16) -> PoolProgress
     ensures { λ r. ⌜ r ≡ pooled progress used ⌝ }
 {
@@ -62,7 +62,7 @@ fn read_field(
     }
 }
 
-// Stores a body of so many instructions as part j of form f, and reads them into the pool after those that are used.
+// Stores a body of `count` instructions as part j of form f, and reads them into the pool after those that are used.
 fn keep_body(
     text: &[u8],
     work: &mut [u16],
@@ -121,8 +121,8 @@ fn read_method(
     keep_body(text, work, f, j, forms, keeps, used, count, next, n)
 }
 
-// Part j of form f, for a member of its row, in a sheet of so many forms; the form keeps so many values, and so many
-// instructions are used.
+// Part j of form f, for a member of its row, in a sheet of `forms` forms; the form keeps `keeps` values, and
+// the sheet has used `used` instructions.
 pub fn read_part(
     text: &[u8],
     work: &mut [u16],

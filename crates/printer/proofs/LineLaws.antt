@@ -8,7 +8,8 @@ use Rattle.sheet_rules.specs.Lines.{newline}
 use Rattle.sheet_rules.specs.Keys.{bytes}
 use Rattle.machine_rules.specs.Steps.{outcomeNumber}
 use Rattle.machine_rules.specs.declared.RunAnswer.{RunAnswer}
-use Rattle.authority_rules.specs.Printed.{decimal, further, lineText, verdictWord, lineWord, outcomeWord, stepsWord, valueWord, holderWord, verdictLines, runLines, holderLine}
+use Rattle.sheet_rules.specs.Decimals.{decimal, further, lineText}
+use Rattle.authority_rules.specs.Printed.{verdictWord, lineWord, outcomeWord, stepsWord, valueWord, holderWord, verdictLines, runLines, holderLine}
 use Rattle.line_writer.specs.Put.{Put}
 use Rattle.printer.specs.Printed.{entryCount, entryAt}
 use Rattle.line_writer.proofs.PutLaws.{put-size, put-then, line-put}

@@ -12,7 +12,8 @@ use Rattle.authority_rules.specs.Report.{Holding, Report, reported, notReported
 use Rattle.table.specs.Layout.{workSize}
 use Rattle.lists.specs.PutAt.{begun}
 use Rattle.authority.specs.Every.{entries, everySize}
-use Rattle.authority_question.specs.Asked.{AskedFor, reportReply, reportNumbers}
+use Rattle.question.specs.Asked.{Asked}
+use Rattle.authority_question.specs.Asked.{reportReply, reportNumbers}
 use Rattle.authority_rules.specs.Printed.{verdictLines, runLines, holderLine, holderLines, printed}
 use Rattle.line_writer.specs.Put.{Put}
 use Rattle.printer.specs.Printed.{printSize, entryCount, entryAt, ReportPrinted}
@@ -22,7 +23,7 @@ use Rattle.printer.proofs.HoldersLaws.{Printing, printing-size, from-en
 
 -- what was put is the report's text
 module _ (text : List ℕ) (budget : ℕ) (short : ReportReply) (w numbers out w₁ numbers₁ : List ℕ) (reply : ReportReply) (h : workSize ≤ length w) (l : everySize ≤ length numbers) (room : printSize ≤ length out)
-    (k : AskedFor everySize (reportReply (report text budget)) short (reportNumbers (report text budget)) w numbers w₁ numbers₁ reply) where
+    (k : Asked everySize (reportReply (report text budget)) short (reportNumbers (report text budget)) w numbers w₁ numbers₁ reply) where
   all-printed : (x : Report) → report text budget ≡ x → (most : ℕ) → most ≤ printSize → (out′ : List ℕ) (r : ℕ) → Put most 0 (printed x) out out′ r → ReportPrinted text budget w numbers out w₁ numbers₁ out′ r
   all-printed x e most m out′ r p =
       record {

@@ -21,16 +21,17 @@ use Rattle.authority_rules.specs.declared.ReportReply.{ReportReply}
 use Rattle.authority_rules.specs.Authority.{isResource, holds, authority}
 use Rattle.authority_rules.specs.Report.{Holding, holdingOf, holders, holdings, Report, reported, notReported, reportOf, report}
 use Rattle.table.specs.Layout.{workSize}
-use Rattle.clear.specs.Cleared.{cleared}
+use Rattle.question.specs.Cleared.{cleared}
 use Rattle.lists.specs.PutAt.{begun}
 use Rattle.authority.specs.Every.{entries, everySize}
-use Rattle.authority.proofs.WrittenLaws.{passing-few}
+use Rattle.lists.proofs.PassingLaws.{passing-few}
 use Rattle.authority.proofs.PutLaws.{entries-few}
-use Rattle.authority_question.specs.Asked.{enough, AskedFor, reportReply, reportNumbers}
+use Rattle.question.specs.Asked.{enough, Asked}
+use Rattle.authority_question.specs.Asked.{reportReply, reportNumbers}
 
 -- the buffers are long enough
 module _ (text : List ℕ) (budget : ℕ) (short : ReportReply) (w numbers w′ numbers′ : List ℕ) (r : ReportReply) (h : workSize ≤ length w) (l : everySize ≤ length numbers)
-    (k : AskedFor everySize (reportReply (report text budget)) short (reportNumbers (report text budget)) w numbers w′ numbers′ r) where
+    (k : Asked everySize (reportReply (report text budget)) short (reportNumbers (report text budget)) w numbers w′ numbers′ r) where
   yes : enough everySize w numbers ≡ true
   yes i = le-leb workSize (length w) h i && le-leb everySize (length numbers) l i
 
@@ -93,14 +94,14 @@ report-fits text budget = go (meaning text) refl
   where
     sound : (s : Sheet) → meaning text ≡ readable s → typing s ≡ Verdict.Accepted → length (entries (holdings s ((run s budget) .last))) ≤ everySize
     sound s e v =
-        let p = accepted-sound text s e (ap verdictOn e ∙ v) ((run s budget) .steps) ((run s budget) .last) (run-ends s budget .reached) in
+        let p = accepted-sound text s e (ap (verdictOn typing) e ∙ v) ((run s budget) .steps) ((run s budget) .last) (run-ends s budget .reached) in
         holdings-few s ((run s budget) .last) (p .places)
 
     typed : (s : Sheet) → meaning text ≡ readable s → (v : Verdict) → typing s ≡ v → Fits (ifAccepted notReported (reportOf s (run s budget)) v)
     typed s e Verdict.Accepted v = sound s e v
     typed s e (Verdict.Refused q n) v = tt
 
-    go : (m : Meaning) → meaning text ≡ m → Fits (acceptedOn notReported (λ s. reportOf s (run s budget)) m)
+    go : (m : Meaning) → meaning text ≡ m → Fits (acceptedOn typing notReported (λ s. reportOf s (run s budget)) m)
     go (readable s) e = typed s e (typing s) refl
     go (unreadable q n) e = tt
 

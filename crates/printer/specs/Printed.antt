@@ -6,7 +6,7 @@ use lib.ListN.{length, getD, take, drop}
 use Rattle.lists.specs.PutAt.{begun}
 use Rattle.authority_rules.specs.Report.{Holding, report}
 use Rattle.authority_rules.specs.Printed.{printed}
-use Rattle.clear.specs.Cleared.{cleared}
+use Rattle.question.specs.Cleared.{cleared}
 use Rattle.authority_question.specs.Asked.{reportNumbers}
 
 -- the bytes that a report can take: eleven for each of the 66,306 numbers, and five lines before them

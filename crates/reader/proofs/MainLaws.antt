@@ -33,7 +33,7 @@ use Rattle.line_reader.specs.declared.LineTaken.{LineTaken}
 use Rattle.line_reader.specs.declared.Wanted.{Wanted}
 use Rattle.line_reader.specs.declared.Progress.{Progress}
 use Rattle.line_reader.specs.Told.{Room, number as first, lineRead, LineTold}
-use Rattle.read_loop.proofs.ThenLaws.{then-stop, line-then, line-stop, line-gives, moved-then, moved-stop}
+use Rattle.reader_loop.proofs.ThenLaws.{then-stop, line-then, line-stop, line-gives, moved-then, moved-stop}
 use Rattle.instr_reader.specs.Reads.{InstrsRead}
 use Rattle.form_reader.specs.Reads.{FormsUsed}
 use Rattle.reader.specs.Reads.{verdictMeans, endRest, instrsRest, mainRest, RestRead}

@@ -35,8 +35,8 @@ use Rattle.line_reader.specs.declared.LineTaken.{LineTaken}
 use Rattle.line_reader.specs.declared.Wanted.{Wanted}
 use Rattle.line_reader.specs.declared.Progress.{Progress}
 use Rattle.line_reader.specs.Told.{Room, number, LineTold, readTold, Advanced}
-use Rattle.read_loop.proofs.LoopLaws.{advanced-room}
-use Rattle.read_loop.proofs.ThenLaws.{line-then, line-stop, line-gives, moved-then, moved-stop}
+use Rattle.reader_loop.proofs.LoopLaws.{advanced-room}
+use Rattle.reader_loop.proofs.ThenLaws.{line-then, line-stop, line-gives, moved-then, moved-stop}
 use Rattle.row_reader.specs.Reads.{RowsRead}
 use Rattle.part_reader.specs.declared.PoolProgress.{PoolProgress}
 use Rattle.part_reader.specs.Reads.{plain}

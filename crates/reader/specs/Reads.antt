@@ -57,7 +57,7 @@ pub record RestRead (text : List ℕ) (rest : Reader Sheet) (at n : ℕ) (w w′
   pub only : Only 0 tableEnd w w′
   pub placed : v ≡ Verdict.Accepted → Placed w′
 
--- what a text means to a caller whose work buffer has so many numbers: 1 comes first (document 01, Turned away)
+-- what a text means to a caller whose work buffer has `size` numbers: 1 comes first (document 01, Turned away)
 abbrev pub meaningIn : ℕ → List ℕ → Meaning
 meaningIn size text = cond (leb workSize size) (meaning text) (unreadable BufferTooShort 0)
 

@@ -38,7 +38,7 @@ fn pool_verdict(read: PoolProgress) -> Verdict
     }
 }
 
-// Main, from a place of the text to its end, in a sheet of so many rows and forms whose bodies use so many instructions.
+// Main, from a place of the text to its end, in a sheet of `rows` rows and of `forms` forms, whose bodies use `used` instructions.
 fn read_main(
     text: &[u8],
     work: &mut [u16],
@@ -80,7 +80,7 @@ fn read_main(
     Verdict::Accepted
 }
 
-// Forms and main, from the `forms` line on, in a sheet of so many rows.
+// Forms and main, from the `forms` line on, in a sheet of `rows` rows.
 fn read_after_rows(text: &[u8], work: &mut [u16], rows: u16, from: usize, first: u32) -> Verdict
     requires { ⌜ Room (now text) from first × Ready rows (now work) ⌝ }
     ensures { λ r. ⌜ RestRead (now (text .entry)) (rowsRest (rowsIn (now (work .entry)) rows)) from first (now (work .entry)) (now (work .exit)) r ⌝ }

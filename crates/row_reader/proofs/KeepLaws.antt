@@ -20,8 +20,8 @@ use Rattle.sheet_rules.specs.Reader.{Judged, good, bad, demand, got, refused, s
 use Rattle.sheet_rules.specs.RowLines.{kindOf, twin, memberOf, mentionsBelow}
 use Rattle.lexer.specs.declared.Numbers.{Numbers}
 use Rattle.lexer.specs.Scan.{listOf}
-use Rattle.judges.specs.Told.{memberRest}
-use Rattle.judges.proofs.JudgeLaws.{demand-no, demand-yes}
+use Rattle.line_judges.specs.Told.{memberRest}
+use Rattle.line_judges.proofs.JudgeLaws.{demand-no, demand-yes}
 use Rattle.table.specs.Layout.{rowAddress, memberAddress}
 use Rattle.table.specs.View.{cell, memberFrom, memberIn, membersIn, rowIn, rowsIn}
 use Rattle.table.specs.Only.{Only}

@@ -10,7 +10,7 @@ use Rattle.sheet_rules.specs.declared.Reason.{Reason}
 use Rattle.sheet_rules.specs.Reader.{Judged}
 use Rattle.lexer.specs.declared.Numbers.{Numbers}
 use Rattle.lexer.specs.Scan.{listOf}
-use Rattle.judges.specs.Told.{MemberShaped, Lowest, memberRest}
+use Rattle.line_judges.specs.Told.{MemberShaped, Lowest, memberRest}
 use Rattle.table.specs.Layout.{memberAddress}
 use Rattle.table.specs.View.{membersIn, rowsIn}
 use Rattle.table.proofs.ViewLaws.{only-refl}
@@ -18,7 +18,7 @@ use Rattle.line_reader.specs.declared.LineTaken.{LineTaken}
 use Rattle.line_reader.specs.declared.Progress.{Progress}
 use Rattle.line_reader.specs.declared.Wanted.{Wanted}
 use Rattle.line_reader.specs.Told.{lineAsked, LineTold, stoppedBy, Advanced}
-use Rattle.read_loop.proofs.ThenLaws.{Past, past}
+use Rattle.reader_loop.proofs.ThenLaws.{Past, past}
 use Rattle.row_reader.specs.Reads.{headingIn, Kept, MemberRead}
 
 -- by what the line's reader gave

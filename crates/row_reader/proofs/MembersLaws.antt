@@ -14,7 +14,7 @@ use Rattle.table.specs.Layout.{rowAddress}
 use Rattle.table.specs.View.{memberIn, membersIn, rowIn, rowsIn}
 use Rattle.table.proofs.ViewLaws.{only-widen, row-other}
 use Rattle.line_reader.specs.declared.Progress.{Progress}
-use Rattle.read_loop.proofs.LoopLaws.{Going, Turn}
+use Rattle.reader_loop.proofs.LoopLaws.{Going, Turn}
 use Rattle.row_reader.specs.Reads.{headingIn, Headed, InRow, MemberRead}
 use Rattle.row_reader.proofs.KeepLaws.{members-before}
 

@@ -18,8 +18,8 @@ use Rattle.sheet_rules.specs.Lines.{Line, linesOf}
 use Rattle.sheet_rules.specs.Sheet.{Row}
 use Rattle.sheet_rules.specs.Reader.{Judged, refused, give, andThen, settle, one, many}
 use Rattle.sheet_rules.specs.RowLines.{Heading, kindOf, twin, rowLine, memberLine, readRow}
-use Rattle.judges.specs.Told.{rowTold}
-use Rattle.judges.proofs.JudgeLaws.{demand-no, demand-yes}
+use Rattle.line_judges.specs.Told.{rowTold}
+use Rattle.line_judges.proofs.JudgeLaws.{demand-no, demand-yes}
 use Rattle.table.specs.Layout.{rowAddress, workSize}
 use Rattle.table.specs.View.{cell, membersIn, rowIn, rowsIn}
 use Rattle.table.specs.Only.{Only}
@@ -30,7 +30,7 @@ use Rattle.line_reader.specs.declared.LineTaken.{LineTaken}
 use Rattle.line_reader.specs.declared.Wanted.{Wanted}
 use Rattle.line_reader.specs.declared.Progress.{Progress}
 use Rattle.line_reader.specs.Told.{Room, lineAsked, LineTold, readTold, stoppedBy, Advanced}
-use Rattle.read_loop.proofs.ThenLaws.{past, advanced-sooner}
+use Rattle.reader_loop.proofs.ThenLaws.{past, advanced-sooner}
 use Rattle.row_reader.specs.Reads.{headingIn, Headed, MembersRead, rowRest, RowKept, RowRead}
 
 -- a row of a kind's number and members

@@ -8,7 +8,7 @@ use Rattle.table.specs.Layout.{rowAddress}
 use Rattle.table.specs.View.{rowIn}
 use Rattle.table.proofs.ViewLaws.{only-widen, row-other}
 use Rattle.line_reader.specs.declared.Progress.{Progress}
-use Rattle.read_loop.proofs.LoopLaws.{Going, Turn}
+use Rattle.reader_loop.proofs.LoopLaws.{Going, Turn}
 use Rattle.row_reader.specs.Reads.{RowRead}
 
 module _ (text : List ℕ) (count from first : ℕ) (w₀ : List ℕ) where

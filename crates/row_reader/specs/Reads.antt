@@ -10,11 +10,11 @@ use Rattle.sheet_rules.specs.Reader.{Read, give, andThen, settle, one, many}
 use Rattle.sheet_rules.specs.RowLines.{Heading, kindOf, memberLine, readRow}
 use Rattle.lexer.specs.declared.Numbers.{Numbers}
 use Rattle.lexer.specs.Scan.{listOf}
-use Rattle.judges.specs.Told.{memberRest, rowTold}
+use Rattle.line_judges.specs.Told.{memberRest, rowTold}
 use Rattle.table.specs.Layout.{rowAddress, memberAddress, workSize}
 use Rattle.table.specs.View.{cell, memberIn, membersIn, rowIn, rowsIn}
 use Rattle.table.specs.Only.{Only}
-use Rattle.read_loop.specs.Items.{ItemRead, ItemsRead}
+use Rattle.reader_loop.specs.Items.{ItemRead, ItemsRead}
 use Rattle.line_reader.specs.declared.Progress.{Progress}
 use Rattle.line_reader.specs.Told.{readTold, Advanced}
 

@@ -1,7 +1,7 @@
 // The type rows, read into the table.
 ghost use Prim.Native.Nat.{_≤_, _<_, _+_};
 ghost use lib.ListN.{length};
-ghost use Rattle.judges.specs.Told.{MemberShaped};
+ghost use Rattle.line_judges.specs.Told.{MemberShaped};
 ghost use Rattle.row_reader.specs.Reads.{Headed, InRow, Kept, MemberRead, MembersRead, RowKept, RowRead, RowsRead};
 ghost use Rattle.line_reader.specs.Told.{Room};
 ghost use Rattle.table.specs.Layout.{workSize};
@@ -26,7 +26,7 @@ fn keep_member(
     requires { ⌜ InRow (now work) i j count × MemberShaped place numbers × (line < 4294967295) ⌝ }
     ensures { λ r. ⌜ Kept i j place numbers next line (now (work .entry)) (now (work .exit)) r ⌝ }
 {
-    let kind = judges::member_kind(place);
+    let kind = line_judges::member_kind(place);
     table::stores::put_member(work, i, j, kind, numbers.n0, numbers.n1, numbers.n2);
     if row_store::completes_twin(work, i, j, count) {
         return Progress::Refused {

@@ -8,7 +8,7 @@ use Rattle.lists.specs.Tab.{tab}
 use Rattle.lists.proofs.TabLaws.{tab-suc}
 use Rattle.sheet_rules.specs.declared.Member.{Member}
 use Rattle.sheet_rules.specs.RowLines.{nameOf, ascends}
-use Rattle.judges.specs.Told.{Lowest}
+use Rattle.line_judges.specs.Told.{Lowest}
 
 ascends-snoc : (xs : List Member) (x : Member) (n : ℕ) → ascends (xs ++ (x ∷ [])) n ≡ ltb (nameOf x) n
 unfolding ascends

@@ -14,8 +14,8 @@ use Rattle.sheet_rules.specs.Keys.{samePlace, memberKind}
 use Rattle.sheet_rules.specs.RowLines.{memberOf}
 use Rattle.lexer.specs.declared.Numbers.{Numbers}
 use Rattle.lexer.specs.Scan.{listOf, Fitting}
-use Rattle.judges.specs.Told.{MemberShaped}
-use Rattle.judges.proofs.JudgeLaws.{number-first, number-second, number-third}
+use Rattle.line_judges.specs.Told.{MemberShaped}
+use Rattle.line_judges.proofs.JudgeLaws.{number-first, number-second, number-third}
 use Rattle.table.specs.Layout.{memberAddress, workSize}
 use Rattle.table.specs.View.{cell, kindTag, memberFrom, memberIn}
 use Rattle.table.specs.Stores.{memberPut}

@@ -5,7 +5,7 @@ ghost use Prim.Native.Nat.{_≤_, _<_, _+_, suc};
 ghost use lib.Dec.{eqb};
 ghost use lib.ListN.{length};
 ghost use Rattle.sheet_rules.specs.RowLines.{nameOf, twin, mentionsBelow};
-ghost use Rattle.judges.specs.Told.{Lowest};
+ghost use Rattle.line_judges.specs.Told.{Lowest};
 ghost use Rattle.table.specs.Layout.{rowAddress, workSize};
 ghost use Rattle.table.specs.View.{cell as cellOf, membersIn, rowIn, rowsIn};
 use sheet_rules::Member;
@@ -62,7 +62,7 @@ pub fn completes_twin(work: &[u16], i: usize, j: usize, count: usize) -> bool
     ensures { λ r. ⌜ r ≡ (eqb (suc j) count && twin (rowsIn (now (work .entry)) i) (rowIn (now (work .entry)) i)) ⌝ }
 {
     if j + 1 == count {
-        return twins::has_twin(work, i);
+        return row_twins::has_twin(work, i);
     }
     false
 }
@@ -73,7 +73,7 @@ pub fn lone_twin(work: &[u16], i: usize, count: usize) -> bool
     ensures { λ r. ⌜ r ≡ (eqb count 0 && twin (rowsIn (now (work .entry)) i) (rowIn (now (work .entry)) i)) ⌝ }
 {
     if count == 0 {
-        return twins::has_twin(work, i);
+        return row_twins::has_twin(work, i);
     }
     false
 }

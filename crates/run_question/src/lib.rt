@@ -3,7 +3,7 @@ ghost use Prim.Native.Nat.{_≤_};
 ghost use lib.ListN.{length};
 ghost use Rattle.machine_rules.specs.Steps.{runReply};
 ghost use Rattle.table.specs.Layout.{workSize};
-ghost use Rattle.clear.specs.Answer.{Answered};
+ghost use Rattle.question.specs.Asked.{ToldAlone};
 ghost use Rattle.run_question.specs.Asked.{RunAsked};
 use machine_rules::RunReply;
 use sheet_rules::Reason;
@@ -12,9 +12,9 @@ use sheet_rules::Verdict;
 // The reply for a text, in a work buffer that is long enough.
 fn run_text(text: &[u8], budget: u32, work: &mut [u16]) -> RunReply
     requires { ⌜ workSize ≤ length (now work) ⌝ }
-    ensures { λ r. ⌜ Answered (runReply (now (text .entry)) budget) (now (work .entry)) (now (work .exit)) r ⌝ }
+    ensures { λ r. ⌜ ToldAlone (runReply (now (text .entry)) budget) (now (work .entry)) (now (work .exit)) r ⌝ }
 {
-    let judged = verdict::judge_text(text, work);
+    let judged = verdict_question::judge_text(text, work);
     match judged {
         Verdict::Accepted => RunReply::Ran {
             answer: machine::answer_sheet(work, budget),
@@ -34,6 +34,6 @@ pub fn ask_run(text: &[u8], budget: u32, work: &mut [u16]) -> RunReply
         };
     }
     let reply = run_text(text, budget, work);
-    clear::clear(work);
+    question::clear(work);
     reply
 }

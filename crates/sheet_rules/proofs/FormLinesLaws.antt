@@ -4,7 +4,7 @@ use native.Mathlib.Omega.{arith}
 use mathlib.Core.Path.{_≡_, refl, sym, ap, _∙_, subst}
 use mathlib.Core.List.{List, [], _∷_, _++_, append-nil}
 use mathlib.Core.Logic.{_⊎_, inl, inr}
-use lib.Dec.{T, leb, leb→le, ltb→lt}
+use lib.Dec.{T, leb, ltb, leb→le, ltb→lt}
 use lib.ListN.{length, getD, length-append, length-drop}
 use lib.Seq.{getD-at, append-snoc}
 use Rattle.lists.specs.In.{In}
@@ -20,10 +20,10 @@ use Rattle.sheet_rules.specs.declared.Place.{Place}
 use Rattle.sheet_rules.specs.Limits.{keepLimit, bodyLimit, instructionLimit}
 use Rattle.sheet_rules.specs.Keys.{countOf, samePlace, takes, stands, operationOf}
 use Rattle.sheet_rules.specs.Lines.{Line}
-use Rattle.sheet_rules.specs.Sheet.{Row, Instr, Part, Form, noMember, rowAt, sizeOfParts, sizeOfForms}
+use Rattle.sheet_rules.specs.Sheet.{Row, Instr, namedSlots, Part, Form, noMember, rowAt, sizeOfParts, sizeOfForms}
 use Rattle.sheet_rules.specs.Reader.{Reader, nth, within, existingLine, one, many}
-use Rattle.sheet_rules.specs.FormLines.{FormHeading, formLine, bodyLine, instrOf, instrLine, readInstrs, readPart, readForm}
-use Rattle.sheet_rules.specs.WellFormed.{keptSlots, WellFormedInstr, Scoped, end, next, PartOf, field, method, WellFormedForm}
+use Rattle.sheet_rules.specs.FormLines.{FormHeading, formLine, bodyLine, instrOf, allBelow, instrLine, readInstrs, readPart, readForm}
+use Rattle.sheet_rules.specs.WellFormed.{WellFormedInstr, Scoped, end, next, PartOf, field, method, WellFormedForm}
 use Rattle.sheet_rules.proofs.KeysLaws.{most-nine}
 use Rattle.sheet_rules.proofs.ReaderLaws.{Judges, its-good, Gives, its-got, judges-demand, gives-one, gives-then, gives-map, gives-many}
 
@@ -38,7 +38,7 @@ existingLine-below wanted bound k ns =
 
 -- BODIES
 
--- how many instructions follow a `body` or `main` line, after so many of the sheet
+-- how many instructions follow a `body` or `main` line, after `used` of the sheet
 pub record Room (used i : ℕ) : Type 0 where
   pub some : 1 ≤ i
   pub few : i ≤ bodyLimit
@@ -64,6 +64,15 @@ scoped-snoc {forms} {filled} (i ∷ is) j (next u r) t =
     let e : filled + suc (length is) ≡ suc filled + length is = omega arith in
     next u (scoped-snoc is j r (subst (λ (m : ℕ). WellFormedInstr forms m j) e t))
 
+-- of numbers below a bound, the first and the others
+pub first-below : {bound x : ℕ} (xs : List ℕ) → T (allBelow bound (x ∷ xs)) → x < bound
+unfolding allBelow
+first-below {bound} {x} xs t = ltb→lt x bound (and-left (ltb x bound) (allBelow bound xs) t)
+
+pub others-below : (bound x : ℕ) (xs : List ℕ) → T (allBelow bound (x ∷ xs)) → T (allBelow bound xs)
+unfolding allBelow
+others-below bound x xs t = and-right (ltb x bound) (allBelow bound xs) t
+
 -- a line that stands where it may has at most the numbers of a `new` with 8 kept values
 numbers-few : (wanted k : Place) (ns : List ℕ) → T (stands wanted k ns) → length ns ≤ suc keepLimit
 numbers-few wanted k ns t =
@@ -72,7 +81,7 @@ numbers-few wanted k ns t =
     let n = most-nine k in
     omega arith
 
-instrOf-few : (operation : Operation) (ns : List ℕ) → length ns ≤ suc keepLimit → keptSlots (instrOf operation ns) ≤ keepLimit
+instrOf-few : (operation : Operation) (ns : List ℕ) → length ns ≤ suc keepLimit → length (namedSlots (instrOf operation ns)) ≤ keepLimit
 instrOf-few New ns h = rw length-drop (omega arith)
 instrOf-few Call ns h = omega arith
 instrOf-few Get ns h = omega arith

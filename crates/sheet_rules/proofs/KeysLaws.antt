@@ -1,11 +1,17 @@
--- Every key takes a number, and none takes more than nine. Assumes nothing.
-use Prim.Native.Nat.{_≤_}
-use lib.Dec.{lit≤}
+-- Every key takes a number, and none takes more than nine; and what a line that stands at a place is. Assumes nothing.
+use Prim.Native.Nat.{ℕ, _≤_}
+use mathlib.Core.Path.{_≡_, refl, sym, ap, _∙_, subst}
+use mathlib.Core.List.{List, [], _∷_}
+use lib.Dec.{T, eqb→eq, leb, leb→le, lit≤}
+use lib.ListN.{length, getD}
+use Rattle.lists.proofs.Tests.{and-left, and-right}
+use Rattle.sheet_rules.specs.declared.MemberKind.{MemberKind}
+use Rattle.sheet_rules.specs.declared.Operation.{Operation}
 use Rattle.sheet_rules.specs.declared.MemberKind.the-variants.{Method, Field}
 use Rattle.sheet_rules.specs.declared.Operation.the-variants.{New, Call, Get, Put, Copy}
 use Rattle.sheet_rules.specs.declared.Place.{Place}
 use Rattle.sheet_rules.specs.declared.Place.the-variants.{Types, Row, Member, Forms, Form, Keep, Init, Body, Main, Instruction, Nowhere}
-use Rattle.sheet_rules.specs.Keys.{countOf}
+use Rattle.sheet_rules.specs.Keys.{countOf, placeNumber, samePlace, takes, stands, memberKind, operationOf}
 
 pub fewest-one : (k : Place) → 1 ≤ (countOf k) .fewest
 fewest-one Types = lit≤ tt
@@ -42,3 +48,43 @@ most-nine (Instruction Get) = lit≤ tt
 most-nine (Instruction Put) = lit≤ tt
 most-nine (Instruction Copy) = lit≤ tt
 most-nine Nowhere = lit≤ tt
+
+-- WHERE A LINE STANDS
+
+-- a place by its number, and by the kind of member and the operation that tell its keys apart
+abbrev pub placeFrom : MemberKind → Operation → ℕ → Place
+placeFrom m o n = getD (Types ∷ Row ∷ Member m ∷ Forms ∷ Form ∷ Keep ∷ Init ∷ Body ∷ Main ∷ Instruction o ∷ []) n Nowhere
+
+place-from : (k : Place) → placeFrom (memberKind k) (operationOf k) (placeNumber k) ≡ k
+place-from Types = refl
+place-from Row = refl
+place-from (Member m) = refl
+place-from Forms = refl
+place-from Form = refl
+place-from Keep = refl
+place-from Init = refl
+place-from Body = refl
+place-from Main = refl
+place-from (Instruction o) = refl
+place-from Nowhere = refl
+
+module _ (wanted k : Place) (ns : List ℕ) (t : T (stands wanted k ns)) where
+  -- the line's place is the wanted one, but for which of its keys it is
+  pub stands-place : k ≡ placeFrom (memberKind k) (operationOf k) (placeNumber wanted)
+  stands-place =
+      sym (place-from k)
+      ∙ ap (placeFrom (memberKind k) (operationOf k)) (eqb→eq (placeNumber k) (placeNumber wanted) (and-left (samePlace k wanted) (takes k (length ns)) t))
+
+  -- and it has as many numbers as its key asks for
+  pub stands-count : ((countOf k) .fewest ≤ length ns) × (length ns ≤ (countOf k) .most)
+  stands-count =
+      let u = and-right (samePlace k wanted) (takes k (length ns)) t in (
+        leb→le ((countOf k) .fewest) (length ns) (and-left (leb ((countOf k) .fewest) (length ns)) (leb (length ns) ((countOf k) .most)) u),
+        leb→le (length ns) ((countOf k) .most) (and-right (leb ((countOf k) .fewest) (length ns)) (leb (length ns) ((countOf k) .most)) u),
+      )
+
+  pub stands-fewest : {m : Place} → k ≡ m → (countOf m) .fewest ≤ length ns
+  stands-fewest e = subst (λ (x : Place). (countOf x) .fewest ≤ length ns) e (stands-count .0)
+
+  pub stands-most : {m : Place} → k ≡ m → length ns ≤ (countOf m) .most
+  stands-most e = subst (λ (x : Place). length ns ≤ (countOf x) .most) e (stands-count .1)

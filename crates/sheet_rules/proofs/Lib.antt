@@ -6,3 +6,11 @@ pub mod RowLinesLaws
 pub mod FormLinesLaws
 pub mod ReadingLaws
 pub mod SizeLaws
+pub mod DecimalLaws
+pub mod PrintBytes
+pub mod PrintLines
+pub mod TakenLaws
+pub mod LineWritten
+pub mod PrintLaws
+pub mod RoundTrip
+pub mod DistinctLaws

@@ -121,7 +121,7 @@ too-long = refl
 
 -- THE LIMIT OF 1,024 INSTRUCTIONS, at its edge
 
--- a heading and so many instructions
+-- a heading and n instructions
 abbrev body : String → ℕ → List String
 body l n = l ∷ replicate n "copy=0"
 

@@ -75,7 +75,7 @@ readSheet-wellFormed ls n =
     its-got (sheet-wellFormed rows forms main t f i a b c d e g))))))))
 
 -- what holds of every sheet that reading gives holds of the sheet that a text means
-meaning-has : (P : Sheet → Type 0) → ((ls : List Line) (n : ℕ) → Gives P (readSheet ls n)) → (text : List ℕ) (s : Sheet) → meaning text ≡ readable s → P s
+pub meaning-has : (P : Sheet → Type 0) → ((ls : List Line) (n : ℕ) → Gives P (readSheet ls n)) → (text : List ℕ) (s : Sheet) → meaning text ≡ readable s → P s
 unfolding meaning
 meaning-has P h text s e = go (leb (length text) textLimit) (readSheet (linesOf text) 1) (h (linesOf text) 1) e
   where

@@ -3,6 +3,7 @@
 use Prim.Native.Nat.{ℕ, suc, _+_}
 use mathlib.Core.Bool.{Bool, true, _&&_}
 use mathlib.Core.List.{List, [], _∷_}
+use mathlib.Core.Option.{Option, none, some}
 use lib.Dec.{leb, ltb}
 use lib.ListN.{length, getD, drop}
 use Rattle.sheet_rules.specs.declared.Member.{Member}
@@ -13,7 +14,7 @@ use Rattle.sheet_rules.specs.declared.Place.{Place}
 use Rattle.sheet_rules.specs.declared.Reason.the-variants.{Malformed, OutOfLimit, NotDefined}
 use Rattle.sheet_rules.specs.Limits.{nameLimit, keepLimit, bodyLimit, instructionLimit}
 use Rattle.sheet_rules.specs.Keys.{stands, operationOf}
-use Rattle.sheet_rules.specs.Sheet.{Row, Instr, new, call, get, put, copy, Part, init, body, Form, noMember, rowAt, sizeOfParts, sizeOfForms}
+use Rattle.sheet_rules.specs.Sheet.{Row, Instr, new, call, get, put, copy, namedSlots, namedForm, calledName, fieldName, Part, init, body, Form, noMember, rowAt, sizeOfParts, sizeOfForms}
 use Rattle.sheet_rules.specs.Reader.{Judged, good, demand, Reader, _>>=_, give, one, many, nth, within, existingLine}
 
 -- what a `form` line says: its type row and how many values are kept (The sheet, forms and main)
@@ -29,7 +30,7 @@ formLine rows k ns =
     (demand (ltb (nth ns 0) rows) NotDefined
     (good (record { row = nth ns 0; count = nth ns 1 }))))
 
--- `body=I` or `main=I`, after so many instructions of the sheet (The sheet, forms and main)
+-- `body=I` or `main=I`, after `used` instructions of the sheet (The sheet, forms and main)
 unfoldable pub bodyLine : Place → ℕ → Place → List ℕ → Judged ℕ
 bodyLine wanted used k ns =
     demand (stands wanted k ns) Malformed
@@ -44,13 +45,14 @@ instrOf Get ns = get (nth ns 0)
 instrOf Put ns = put (nth ns 0) (nth ns 1)
 instrOf Copy ns = copy (nth ns 0)
 
+-- a test of what an instruction may name: it passes where the instruction names nothing (The sheet, forms and main)
+abbrev pub ifNamed : (ℕ → Bool) → Option ℕ → Bool
+ifNamed test none = true
+ifNamed test (some n) = test n
+
 -- the name that an instruction has is within its limit (The sheet, forms and main)
 abbrev pub nameAllowed : Instr → Bool
-nameAllowed (new f ss) = true
-nameAllowed (call o n a) = leb n nameLimit
-nameAllowed (get n) = leb n nameLimit
-nameAllowed (put n v) = leb n nameLimit
-nameAllowed (copy v) = true
+nameAllowed i = ifNamed (λ n. leb n nameLimit) (calledName i) && ifNamed (λ n. leb n nameLimit) (fieldName i)
 
 -- every number is below a bound (The sheet, forms and main)
 unfoldable pub allBelow : ℕ → List ℕ → Bool
@@ -60,13 +62,9 @@ allBelow bound (x ∷ xs) = ltb x bound && allBelow bound xs
 -- the form that an instruction names is one of the sheet's, and its slots were filled by earlier lines
 -- (The sheet, forms and main)
 abbrev pub namesExist : ℕ → ℕ → Instr → Bool
-namesExist forms filled (new f ss) = ltb f forms && allBelow filled ss
-namesExist forms filled (call o n a) = ltb o filled && ltb a filled
-namesExist forms filled (get n) = true
-namesExist forms filled (put n v) = ltb v filled
-namesExist forms filled (copy v) = ltb v filled
+namesExist forms filled i = ifNamed (λ f. ltb f forms) (namedForm i) && allBelow filled (namedSlots i)
 
--- an instruction line, in a sheet of so many forms, with so many slots filled (The sheet, forms and main)
+-- an instruction line, in a sheet of `forms` forms, where `filled` slots are filled (The sheet, forms and main)
 unfoldable pub instrLine : ℕ → ℕ → Place → List ℕ → Judged Instr
 instrLine forms filled k ns =
     demand (stands (Place.Instruction New) k ns) Malformed
@@ -74,7 +72,7 @@ instrLine forms filled k ns =
     (demand (namesExist forms filled (instrOf (operationOf k) ns)) NotDefined
     (good (instrOf (operationOf k) ns))))
 
--- i instructions, the first of them with so many slots filled; each fills one more (The sheet, forms and main)
+-- i instructions, the first of them where `filled` slots are filled; each fills one more (The sheet, forms and main)
 unfoldable pub readInstrs : ℕ → ℕ → ℕ → Reader (List Instr)
 readInstrs forms filled i = many i (λ before. one (instrLine forms (filled + length before))) []
 
@@ -89,7 +87,7 @@ readPart forms keeps used (Method n a r) = do
   is ← readInstrs forms (suc (suc keeps)) i
   give (body is)
 
--- a form, after the earlier ones, in a sheet of so many (The sheet, forms and main)
+-- a form, after the earlier ones, in a sheet of `forms` (The sheet, forms and main)
 unfoldable pub readForm : List Row → ℕ → List Form → Reader Form
 readForm rows forms earlier = do
   h ← one (formLine (length rows))

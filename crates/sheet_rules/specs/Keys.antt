@@ -24,7 +24,7 @@ pub record Count : Type 0 where
   pub fewest : ℕ
   pub most : ℕ
 
--- so many numbers, no more and no fewer (The sheet)
+-- n numbers, no more and no fewer (The sheet)
 abbrev pub exactly : ℕ → Count
 exactly n = record { fewest = n; most = n }
 
@@ -119,7 +119,7 @@ placeNumber Nowhere = 10
 abbrev pub samePlace : Place → Place → Bool
 samePlace a b = eqb (placeNumber a) (placeNumber b)
 
--- so many numbers may follow the key of a place (The sheet)
+-- n numbers may follow the key of place k (The sheet)
 abbrev pub takes : Place → ℕ → Bool
 takes k n = leb ((countOf k) .fewest) n && leb n ((countOf k) .most)
 

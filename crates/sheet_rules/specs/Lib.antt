@@ -9,3 +9,5 @@ pub mod Reading
 pub mod WellFormed
 pub mod Answers
 pub mod Samples
+pub mod Decimals
+pub mod Print

@@ -10,7 +10,7 @@ use Rattle.sheet_rules.specs.declared.Reason.{Reason}
 use Rattle.sheet_rules.specs.declared.Reason.the-variants.{TextTooLong, Malformed}
 use Rattle.sheet_rules.specs.Limits.{textLimit, rowLimit, formLimit}
 use Rattle.sheet_rules.specs.Lines.{linesOf}
-use Rattle.sheet_rules.specs.Sheet.{Sheet, sizeOfForms}
+use Rattle.sheet_rules.specs.Sheet.{Sheet, atStart, sizeOfForms}
 use Rattle.sheet_rules.specs.Reader.{Read, got, refused, Reader, _>>=_, give, one, many, countLine}
 use Rattle.sheet_rules.specs.RowLines.{readRow}
 use Rattle.sheet_rules.specs.FormLines.{bodyLine, readInstrs, readForm}
@@ -28,7 +28,7 @@ readSheet = do
   f ← one (countLine Place.Forms 0 formLimit)
   forms ← many f (readForm rows f) []
   i ← one (bodyLine Place.Main (sizeOfForms forms))
-  main ← readInstrs f 0 i
+  main ← readInstrs f (length atStart) i
   _ ← readEnd
   give (record { rows = rows; forms = forms; main = main })
 

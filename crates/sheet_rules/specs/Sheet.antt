@@ -1,6 +1,7 @@
 -- What a sheet says, as a value: rows, forms and main (document 01, The sheet). Stands on the shared types alone.
 use Prim.Native.Nat.{ℕ, _+_}
 use mathlib.Core.List.{List, [], _∷_}
+use mathlib.Core.Option.{Option, none, some}
 use lib.ListN.{length, getD}
 use Rattle.sheet_rules.specs.declared.Kind.{Kind}
 use Rattle.sheet_rules.specs.declared.Kind.the-variants.{Pure}
@@ -25,6 +26,38 @@ pub data Instr : Type 0 where
   -- `copy=s`: slot s
   copy : ℕ → Instr
 
+-- the slots that an instruction names, in its line's order (The sheet, forms and main)
+abbrev pub namedSlots : Instr → List ℕ
+namedSlots (new f ss) = ss
+namedSlots (call o n a) = o ∷ a ∷ []
+namedSlots (get n) = []
+namedSlots (put n v) = v ∷ []
+namedSlots (copy v) = v ∷ []
+
+-- the form that an instruction names: that of a `new` (The sheet, forms and main)
+abbrev pub namedForm : Instr → Option ℕ
+namedForm (new f ss) = some f
+namedForm (call o n a) = none
+namedForm (get n) = none
+namedForm (put n v) = none
+namedForm (copy v) = none
+
+-- the method that an instruction calls, by its name (The sheet, forms and main)
+abbrev pub calledName : Instr → Option ℕ
+calledName (new f ss) = none
+calledName (call o n a) = some n
+calledName (get n) = none
+calledName (put n v) = none
+calledName (copy v) = none
+
+-- the field of the own object that an instruction reads or sets, by its name (The sheet, forms and main)
+abbrev pub fieldName : Instr → Option ℕ
+fieldName (new f ss) = none
+fieldName (call o n a) = none
+fieldName (get n) = some n
+fieldName (put n v) = some n
+fieldName (copy v) = none
+
 -- what a form has for a member of its row: the kept value that a field starts as, or a method's body (The sheet)
 pub data Part : Type 0 where
   init : ℕ → Part
@@ -41,6 +74,11 @@ pub record Sheet : Type 0 where
   pub rows : List Row
   pub forms : List Form
   pub main : List Instr
+
+-- the forms of the objects that are there at the start, which fill main's first slots: none. Reading, typing and the machine take
+-- main's first slots from it (The sheet; The machine)
+abbrev pub atStart : List ℕ
+atStart = []
 
 -- what look-ups give for a number that is not there; reading refuses such numbers (Turned away, 7)
 abbrev pub noRow : Row

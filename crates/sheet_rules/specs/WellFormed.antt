@@ -1,16 +1,18 @@
 -- What every sheet that was read has (document 01, The sheet), as facts for those who come after reading. ReadingLaws proves
 -- them. Stands on Sheet, RowLines and FormLines.
 use Prim.Native.Nat.{ℕ, suc, _+_, _≤_, _<_}
+use mathlib.Core.Path.{_≡_}
+use mathlib.Core.Bool.{false}
 use mathlib.Core.List.{List, [], _∷_}
 use lib.Dec.{T}
-use lib.ListN.{length}
+use lib.ListN.{length, take}
 use Rattle.lists.specs.In.{In}
 use Rattle.lists.specs.Pairwise.{Pairwise}
 use Rattle.sheet_rules.specs.declared.Member.{Member}
 use Rattle.sheet_rules.specs.declared.Member.the-variants.{Method, Field}
 use Rattle.sheet_rules.specs.Limits.{rowLimit, memberLimit, nameLimit, formLimit, keepLimit, bodyLimit, instructionLimit}
-use Rattle.sheet_rules.specs.Sheet.{Row, Instr, new, call, get, put, copy, Part, init, body, Form, Sheet, rowAt, sizeOfForms}
-use Rattle.sheet_rules.specs.RowLines.{nameOf, mentionsBelow}
+use Rattle.sheet_rules.specs.Sheet.{Row, Instr, namedSlots, Part, init, body, Form, Sheet, atStart, rowAt, sizeOfForms}
+use Rattle.sheet_rules.specs.RowLines.{nameOf, mentionsBelow, twin}
 use Rattle.sheet_rules.specs.FormLines.{nameAllowed, namesExist}
 
 -- every member of a list mentions rows below i alone (The sheet)
@@ -33,22 +35,18 @@ pub record WellFormedRow (i : ℕ) (a : Row) : Type 0 where
   pub low : (x : Member) → In x (a .members) → nameOf x ≤ nameLimit
   pub few : length (a .members) ≤ memberLimit
 
--- how many slots a `new` names for kept values (The sheet)
-abbrev pub keptSlots : Instr → ℕ
-keptSlots (new f ss) = length ss
-keptSlots (call o n a) = 0
-keptSlots (get n) = 0
-keptSlots (put n v) = 0
-keptSlots (copy v) = 0
+-- no two rows are the same: each is no twin of those before it (The sheet)
+abbrev pub DistinctRows : List Row → Type 0
+DistinctRows rows = (a : ℕ) → a < length rows → twin (take a rows) (rowAt rows a) ≡ false
 
--- an instruction, with so many slots filled: it names a form of the sheet and slots filled before it, and is within its limits
+-- an instruction, where `filled` slots are filled: it names a form of the sheet and slots filled before it, and is within its limits
 -- (The sheet)
 pub record WellFormedInstr (forms filled : ℕ) (i : Instr) : Type 0 where
   pub exist : T (namesExist forms filled i)
   pub name : T (nameAllowed i)
-  pub few : keptSlots i ≤ keepLimit
+  pub few : length (namedSlots i) ≤ keepLimit
 
--- some instructions, the first of them with so many slots filled; each fills one more (The sheet)
+-- some instructions, the first of them where `filled` slots are filled; each fills one more (The sheet)
 pub data Scoped (forms : ℕ) : ℕ → List Instr → Type 0 where
   end : {filled : ℕ} → Scoped forms filled []
   next : {filled : ℕ} {i : Instr} {is : List Instr} → WellFormedInstr forms filled i → Scoped forms (suc filled) is → Scoped forms filled (i ∷ is)
@@ -65,7 +63,7 @@ pub data PartOf (forms keeps : ℕ) : Member → Part → Type 0 where
   field : {n r k : ℕ} → k < keeps → PartOf forms keeps (Field n r) (init k)
   method : {n a r : ℕ} {is : List Instr} → WellFormedBody forms (suc (suc keeps)) is → PartOf forms keeps (Method n a r) (body is)
 
--- a form, in a sheet of the given rows and so many forms: its row and its kept rows are there, and its parts
+-- a form, in a sheet of the given rows and `forms` forms: its row and its kept rows are there, and its parts
 -- are those of its row's members one for one (The sheet)
 pub record WellFormedForm (rows : List Row) (forms : ℕ) (f : Form) : Type 0 where
   pub row : f .row < length rows
@@ -80,5 +78,5 @@ pub record WellFormed (s : Sheet) : Type 0 where
   pub fewRows : length (s .rows) ≤ rowLimit
   pub forms : (f : Form) → In f (s .forms) → WellFormedForm (s .rows) (length (s .forms)) f
   pub fewForms : length (s .forms) ≤ formLimit
-  pub main : WellFormedBody (length (s .forms)) 0 (s .main)
+  pub main : WellFormedBody (length (s .forms)) (length atStart) (s .main)
   pub size : sizeOfForms (s .forms) + length (s .main) ≤ instructionLimit

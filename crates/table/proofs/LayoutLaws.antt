@@ -2,7 +2,7 @@
 use Prim.Native.Nat.{_+_, _<_}
 use native.Mathlib.Omega.{arith}
 use mathlib.Core.Path.{_≡_, refl}
-use Rattle.table.specs.Layout.{mainCountAt, rowAddress, memberAddress, formAddress, keepAddress, partAddress, instrAddress, poolAddress, tableEnd, fitAddress, slotRowAddress, objectAddress, frameAddress, stateEnd, workSize}
+use Rattle.table.specs.Layout.{mainCountAt, rowAddress, memberAddress, formAddress, keepAddress, partAddress, instrAddress, poolAddress, tableEnd, fitAddress, placeAddress, slotRowAddress, objectAddress, keptAddress, fieldAddress, frameAddress, slotAddress, stateEnd, markAddress, marksEnd, workSize}
 
 -- the parts, one after another
 pub record Planned : Type 0 where
@@ -13,14 +13,20 @@ pub record Planned : Type 0 where
   pub pool : poolAddress 1024 ≡ tableEnd
   pub table : tableEnd ≡ fitAddress 0 0
   pub fit : fitAddress 63 63 + 1 ≡ slotRowAddress 0
+  pub places : placeAddress 0 0 ≡ fitAddress 0 0
   pub slots : slotRowAddress 63 + 1 ≡ objectAddress 0
   pub objects : objectAddress 255 + 17 ≡ frameAddress 0
   pub frames : frameAddress 63 + 48 ≡ stateEnd
-  pub spare : stateEnd + 5296 ≡ workSize
-  -- within a row and a form
+  pub state : stateEnd ≡ markAddress 0
+  pub marks : markAddress 255 + 1 ≡ marksEnd
+  pub spare : marksEnd + 5040 ≡ workSize
+  -- within a row, a form, an object and a frame
   pub members : memberAddress 0 7 + 4 ≡ rowAddress 1
   pub keeps : keepAddress 0 7 + 1 ≡ partAddress 0 0
   pub parts : partAddress 0 7 + 3 < formAddress 1
+  pub kept : keptAddress 0 7 + 1 ≡ fieldAddress 0 0
+  pub fields : fieldAddress 0 7 + 1 ≡ objectAddress 1
+  pub slotsIn : slotAddress 0 43 + 1 ≡ frameAddress 1
 
 pub planned : Planned
 planned =
@@ -32,11 +38,17 @@ planned =
       pool = refl;
       table = refl;
       fit = refl;
+      places = refl;
       slots = refl;
       objects = refl;
       frames = refl;
+      state = refl;
+      marks = refl;
       spare = refl;
       members = refl;
       keeps = refl;
       parts = omega arith;
+      kept = refl;
+      fields = refl;
+      slotsIn = refl;
     }

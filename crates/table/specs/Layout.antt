@@ -1,6 +1,5 @@
 -- Where everything lies in the 32,768 numbers of the work buffer. Every place is clamped into its own part, so that parts never
--- overlap, whatever the numbers in them are. Only this crate and those above it that hold or read the machine's state
--- (machine_state, member_places, marks, authority) write an offset. Stands on nothing.
+-- overlap, whatever the numbers in them are. Every address is said here. Stands on nothing.
 use Prim.Native.Nat.{ℕ, _+_, _*_, min}
 
 -- the sheet's counts: rows, forms, where main's instructions begin, and how many they are
@@ -46,9 +45,13 @@ poolAddress p = 4624 + 11 * min p 1024
 abbrev pub tableEnd : ℕ
 tableEnd = 15888
 
--- 64 times 64 answers of fit; for a run, the places of each form's members by name
+-- 64 times 64 answers of fit
 abbrev pub fitAddress : ℕ → ℕ → ℕ
 fitAddress a b = 15888 + (64 * min a 63 + min b 63)
+
+-- in a run the same room holds, by name, the places of each form's members
+abbrev pub placeAddress : ℕ → ℕ → ℕ
+placeAddress f n = fitAddress f n
 
 -- the rows of up to 64 slots
 abbrev pub slotRowAddress : ℕ → ℕ
@@ -58,13 +61,30 @@ slotRowAddress v = 19984 + min v 63
 abbrev pub objectAddress : ℕ → ℕ
 objectAddress o = 20048 + 17 * min o 255
 
+abbrev pub keptAddress : ℕ → ℕ → ℕ
+keptAddress o i = objectAddress o + (1 + min i 7)
+
+abbrev pub fieldAddress : ℕ → ℕ → ℕ
+fieldAddress o i = objectAddress o + (9 + min i 7)
+
 -- 64 frames of 48: four of its own, and up to 44 slots
 abbrev pub frameAddress : ℕ → ℕ
 frameAddress f = 24400 + 48 * min f 63
 
--- 256 marks of objects, and then room to spare, for devices, from here to the end
+abbrev pub slotAddress : ℕ → ℕ → ℕ
+slotAddress f v = frameAddress f + (4 + min v 43)
+
+-- the machine's state ends here
 abbrev pub stateEnd : ℕ
 stateEnd = 27472
+
+-- 256 marks of objects
+abbrev pub markAddress : ℕ → ℕ
+markAddress b = 27472 + min b 255
+
+-- and then room to spare, for devices, from here to the end
+abbrev pub marksEnd : ℕ
+marksEnd = 27728
 
 abbrev pub workSize : ℕ
 workSize = 32768

@@ -5,3 +5,4 @@ pub mod TypingLaws
 pub mod LookUpLaws
 pub mod TypedLaws
 pub mod AgreeLaws
+pub mod FaultLines

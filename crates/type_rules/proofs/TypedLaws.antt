@@ -17,9 +17,11 @@ use Rattle.sheet_rules.specs.declared.Reason.{Reason}
 use Rattle.sheet_rules.specs.declared.Reason.the-variants.{ImpureForm, Misfit}
 use Rattle.sheet_rules.specs.declared.Verdict.the-variants.{Accepted}
 use Rattle.sheet_rules.specs.Sheet.{Row, Instr, Part, Form, Sheet, rowAt, formAt}
+use Rattle.sheet_rules.specs.Reading.{readable, meaning}
 use Rattle.sheet_rules.specs.WellFormed.{WellFormed}
+use Rattle.sheet_rules.proofs.ReadingLaws.{readable-wellFormed}
 use Rattle.type_rules.specs.Fit.{fits}
-use Rattle.type_rules.specs.Typing.{Own, resultOf, rowOr0, slotRow, slotRows, lastRow, mainRows, Fault, unless, firstOf, allFit, callFault, getFault, putFault, instrFault, resultFault, instrFaults, partFaults, partsFaults, isPure, hasField, keepFaults, formFaults, formsFaults, lineFaults, firstFault, firstFormLine, typing}
+use Rattle.type_rules.specs.Typing.{Own, resultOf, rowOr0, slotRow, slotRows, lastRow, mainRows, Fault, unless, firstOf, allFit, callFault, getFault, putFault, instrFault, resultFault, instrFaults, partFaults, partsFaults, isPure, hasField, keepFaults, formFaults, formsFaults, lineFaults, firstFault, firstFormLine, typing, verdictOn, verdict}
 use Rattle.type_rules.specs.Typed.{SlotFits, InstrTyped, typed-new, typed-call, typed-get, typed-put, typed-copy, ResultFits, undeclared, declared, CodeTyped, end, next, PartTyped, typed-init, typed-body, FormTyped, Typed}
 use Rattle.type_rules.proofs.TypingLaws.{Faultless, lastRow-snoc, result-row, accepted-typed}
 
@@ -159,3 +161,10 @@ module _ (s : Sheet) where
   -- of the sheets that reading gives, the verdict accepts exactly the well-typed ones
   pub accepted-exactly : WellFormed s → (typing s ≡ Accepted) ↔ Typed s
   accepted-exactly w = (accepted-typed s w, typed-accepted)
+
+-- an accepted text's sheet is well formed and well typed
+pub accepted-sheet : (text : List ℕ) (s : Sheet) → meaning text ≡ readable s → verdict text ≡ Accepted → WellFormed s × Typed s
+unfolding verdict
+accepted-sheet text s e v =
+    let w : WellFormed s = readable-wellFormed text s e in
+    (w, accepted-typed s w (ap (verdictOn typing) (sym e) ∙ v))

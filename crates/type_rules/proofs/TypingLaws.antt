@@ -16,11 +16,13 @@ use Rattle.sheet_rules.specs.declared.Member.{Member}
 use Rattle.sheet_rules.specs.declared.Member.the-variants.{Method, Field}
 use Rattle.sheet_rules.specs.declared.Reason.{Reason}
 use Rattle.sheet_rules.specs.declared.Reason.the-variants.{ImpureForm, Misfit}
+use Rattle.sheet_rules.specs.declared.Verdict.{Verdict}
 use Rattle.sheet_rules.specs.declared.Verdict.the-variants.{Accepted, Refused}
 use Rattle.sheet_rules.specs.Sheet.{Row, Instr, new, call, get, put, copy, Part, init, body, Form, Sheet, rowAt, formAt}
 use Rattle.sheet_rules.specs.FormLines.{allBelow, namesExist}
 use Rattle.sheet_rules.specs.Reading.{Meaning, readable, unreadable}
 use Rattle.sheet_rules.specs.WellFormed.{Scoped, WellFormedBody, PartOf, WellFormedForm, WellFormed}
+use Rattle.sheet_rules.proofs.FormLinesLaws.{first-below, others-below}
 use Rattle.type_rules.specs.Fit.{fits}
 use Rattle.type_rules.specs.Typing.{Signature, methodIn, membersAt, Own, ownField, resultOf, rowOr0, slotRow, slotRows, lastRow, bodyRows, mainRows, Fault, unless, firstOf, allFit, callFault, getFault, putFault, instrFault, resultFault, instrFaults, partFaults, partsFaults, isPure, hasField, keepFaults, formFaults, formsFaults, lineFaults, firstFault, firstFormLine, typing, verdictOn, ifAccepted, acceptedOn}
 use Rattle.type_rules.specs.Typed.{SlotFits, InstrTyped, typed-new, typed-call, typed-get, typed-put, typed-copy, ResultFits, undeclared, declared, CodeTyped, end, next, PartTyped, typed-init, typed-body, FormTyped, Typed}
@@ -69,11 +71,10 @@ module _ (s : Sheet) where
   slots-fit rows (v ∷ ss) (b ∷ bs) t u =
       pair
       (record {
-        filled = ltb→lt v (length rows) (and-left (ltb v (length rows)) (allBelow (length rows) ss) t);
+        filled = first-below ss t;
         fit = and-left (fits (s .rows) (getD rows v 0) b) (allFit (fits (s .rows)) rows ss bs) u;
       })
-      (slots-fit rows ss bs
-      (and-right (ltb v (length rows)) (allBelow (length rows) ss) t)
+      (slots-fit rows ss bs (others-below (length rows) v ss t)
       (and-right (fits (s .rows) (getD rows v 0) b) (allFit (fits (s .rows)) rows ss bs) u))
 
   instr-typed : (own : Own) (rows : List ℕ) (i : Instr) → T (namesExist (length (s .forms)) (length rows) i)
@@ -88,8 +89,7 @@ module _ (s : Sheet) where
           → InstrTyped s own rows (call o n a) (resultOf m)
       go none p e = clash (cc)
       go (some m) p e =
-          typed-call (ltb→lt o (length rows) (and-left (ltb o (length rows)) (ltb a (length rows)) t)) p
-          (record { filled = ltb→lt a (length rows) (and-right (ltb o (length rows)) (ltb a (length rows)) t); fit = fit-passed (getD rows a 0) (m .argument) e })
+          typed-call (first-below (a ∷ []) t) p (record { filled = first-below [] (others-below (length rows) o (a ∷ []) t); fit = fit-passed (getD rows a 0) (m .argument) e })
   instr-typed own rows (get n) t e = go (ownField s own n) refl e
     where
       go : (r : Option ℕ) → ownField s own n ≡ r → getFault r ≡ none → InstrTyped s own rows (get n) (rowOr0 r)
@@ -99,8 +99,8 @@ module _ (s : Sheet) where
     where
       go : (r : Option ℕ) → ownField s own n ≡ r → putFault (fits (s .rows)) r (getD rows v 0) ≡ none → InstrTyped s own rows (put n v) (rowOr0 r)
       go none p e = clash (cc)
-      go (some r) p e = typed-put p (record { filled = ltb→lt v (length rows) t; fit = fit-passed (getD rows v 0) r e })
-  instr-typed own rows (copy v) t e = typed-copy (ltb→lt v (length rows) t)
+      go (some r) p e = typed-put p (record { filled = first-below [] t; fit = fit-passed (getD rows v 0) r e })
+  instr-typed own rows (copy v) t e = typed-copy (first-below [] t)
 
   -- BODIES
 
@@ -219,15 +219,15 @@ module _ (s : Sheet) where
 
 -- WHAT GOES ON FROM THE VERDICT
 
-module _ {A : Type 0} (refused : Reason → ℕ → A) (answer : Sheet → A) (m : Meaning) where
+module _ {A : Type 0} (judge : Sheet → Verdict) (refused : Reason → ℕ → A) (answer : Sheet → A) (m : Meaning) where
   -- a text that the verdict refuses is refused so
-  pub refused-on : (q : Reason) (l : ℕ) → verdictOn m ≡ Refused q l → acceptedOn refused answer m ≡ refused q l
+  pub refused-on : (q : Reason) (l : ℕ) → verdictOn judge m ≡ Refused q l → acceptedOn judge refused answer m ≡ refused q l
   refused-on q l e = go m e
     where
-      go : (x : Meaning) → verdictOn x ≡ Refused q l → acceptedOn refused answer x ≡ refused q l
+      go : (x : Meaning) → verdictOn judge x ≡ Refused q l → acceptedOn judge refused answer x ≡ refused q l
       go (readable s) v = ap (ifAccepted refused (answer s)) v
       go (unreadable p n) v = ap (ifAccepted refused (refused p n)) v
 
   -- one that it accepts goes on with its sheet
-  pub accepted-on : (s : Sheet) → m ≡ readable s → verdictOn m ≡ Accepted → acceptedOn refused answer m ≡ answer s
-  accepted-on s e v = ap (acceptedOn refused answer) e ∙ ap (ifAccepted refused (answer s)) (ap verdictOn (sym e) ∙ v)
+  pub accepted-on : (s : Sheet) → m ≡ readable s → verdictOn judge m ≡ Accepted → acceptedOn judge refused answer m ≡ answer s
+  accepted-on s e v = ap (acceptedOn judge refused answer) e ∙ ap (ifAccepted refused (answer s)) (ap (verdictOn judge) (sym e) ∙ v)

@@ -43,7 +43,7 @@ membersAnswer fit xs (y ∷ ys) = cond (hasMatch fit xs y) (membersAnswer fit xs
 abbrev pub rowAnswer : (ℕ → ℕ → Bool) → Row → Row → FitAnswer
 rowAnswer fit a b = cond (kindFits (a .kind) (b .kind)) (membersAnswer fit (a .members) (b .members)) WrongKind
 
--- row number a fits row number b as far as chains of so many demands tell (Fit and typing)
+-- row number a fits row number b as far as chains of d demands tell (Fit and typing)
 unfoldable pub fitUpTo : List Row → ℕ → ℕ → ℕ → Bool
 fitUpTo rows zero a b = true
 fitUpTo rows (suc d) a b = isYes (rowAnswer (fitUpTo rows d) (rowAt rows a) (rowAt rows b))

@@ -2,7 +2,7 @@
 -- (document 01, Fit and typing; Turned away, 8 to 10). Stands on Fit and on the sheet; no rule looks at bytes.
 use Prim.Native.Nat.{ℕ, suc, pred, _+_}
 use mathlib.Core.Bool.{Bool, true, false, not, cond, _&&_}
-use mathlib.Core.List.{List, [], _∷_, _++_}
+use mathlib.Core.List.{List, [], _∷_, _++_, map}
 use mathlib.Core.Option.{Option, none, some}
 use lib.Dec.{eqb}
 use lib.ListN.{length, getD}
@@ -14,7 +14,7 @@ use Rattle.sheet_rules.specs.declared.Reason.{Reason}
 use Rattle.sheet_rules.specs.declared.Reason.the-variants.{ImpureForm, NoSuchMember, Misfit}
 use Rattle.sheet_rules.specs.declared.Verdict.{Verdict}
 use Rattle.sheet_rules.specs.declared.Verdict.the-variants.{Accepted, Refused}
-use Rattle.sheet_rules.specs.Sheet.{Row, Instr, new, call, get, put, copy, Part, init, body, Form, Sheet, rowAt, formAt}
+use Rattle.sheet_rules.specs.Sheet.{Row, Instr, new, call, get, put, copy, Part, init, body, Form, Sheet, atStart, rowAt, formAt}
 use Rattle.sheet_rules.specs.Reading.{Meaning, readable, unreadable, meaning}
 use Rattle.type_rules.specs.Fit.{fits}
 
@@ -90,9 +90,9 @@ lastRow rows = getD rows (pred (length rows)) 0
 abbrev pub bodyRows : Form → ℕ → List ℕ
 bodyRows f argument = f .row ∷ argument ∷ f .keeps
 
--- main's first slots: none is filled at the start (Fit and typing)
+-- main's first slots have the rows of the forms at the start (Fit and typing)
 abbrev pub mainRows : Sheet → List ℕ
-mainRows s = []
+mainRows s = map (λ f. (formAt s f) .row) atStart
 
 -- THE FAULT OF A LINE
 
@@ -229,21 +229,21 @@ firstFormLine s = rowLines (s .rows) + 3
 unfoldable pub typing : Sheet → Verdict
 typing s = firstFault (firstFormLine s) (lineFaults (fits (s .rows)) s)
 
--- the verdict on what reading gave: only a sheet that was read whole is typed (Turned away)
-abbrev pub verdictOn : Meaning → Verdict
-verdictOn (readable s) = typing s
-verdictOn (unreadable r n) = Refused r n
+-- the verdict on what reading gave, by a judge of sheets: only a sheet that was read whole is judged (Turned away)
+abbrev pub verdictOn : (Sheet → Verdict) → Meaning → Verdict
+verdictOn judge (readable s) = judge s
+verdictOn judge (unreadable r n) = Refused r n
 
 -- the verdict on a text (Turned away)
 unfoldable pub verdict : List ℕ → Verdict
-verdict text = verdictOn (meaning text)
+verdict text = verdictOn typing (meaning text)
 
 -- what is answered where the sheet goes on to be run: a refusal as it is, or the answer for an accepted sheet (Turned away)
 abbrev pub ifAccepted : {A : Type 0} → (Reason → ℕ → A) → A → Verdict → A
 ifAccepted refused answer Accepted = answer
 ifAccepted refused answer (Refused r n) = refused r n
 
--- only a sheet that was read is judged, and only an accepted one goes on (Turned away)
-abbrev pub acceptedOn : {A : Type 0} → (Reason → ℕ → A) → (Sheet → A) → Meaning → A
-acceptedOn refused answer (readable s) = ifAccepted refused (answer s) (typing s)
-acceptedOn refused answer (unreadable r n) = refused r n
+-- only a sheet that was read is judged, and only one that the judge accepts goes on (Turned away)
+abbrev pub acceptedOn : {A : Type 0} → (Sheet → Verdict) → (Reason → ℕ → A) → (Sheet → A) → Meaning → A
+acceptedOn judge refused answer (readable s) = ifAccepted refused (answer s) (judge s)
+acceptedOn judge refused answer (unreadable r n) = refused r n

@@ -20,7 +20,7 @@ mainFaultsIn w = none ∷ instrFaults (tells w) (sheetIn w) none none (mainRows 
 abbrev pub mainSlotRows : List ℕ → List ℕ
 mainSlotRows w = slotRows (sheetIn w) none (mainRows (sheetIn w)) ((sheetIn w) .main)
 
--- the forms' lines, judged; they are not so many that their numbers would not fit
+-- the forms' lines, judged: 273 for each of 64 forms at the most
 pub record FormsJudged (first : ℕ) (w w′ : List ℕ) (r : Walked) : Type 0 where
   pub lines : LinesJudged (formsFaultsIn w) first w w′ r
   pub few : (n : ℕ) → r ≡ Walked.On n → n ≤ first + 17472

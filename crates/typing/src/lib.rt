@@ -1,10 +1,10 @@
 // The sheet in the table, judged: its forms, then main.
 ghost use mathlib.Core.Path.{_≡_};
-ghost use Prim.Native.Nat.{_≤_, _<_};
+ghost use Prim.Native.Nat.{_+_, _≤_, _<_};
 ghost use Rattle.type_rules.specs.Typing.{firstFormLine};
 ghost use Rattle.table.specs.View.{sheetIn};
 ghost use Rattle.table.specs.Whole.{Whole};
-ghost use Rattle.code_typing.specs.Walk.{walkVerdict};
+ghost use Rattle.code_typing.specs.Walk.{lineLimit, walkVerdict};
 ghost use Rattle.code_typing.specs.Told.{CodeJudged};
 ghost use Rattle.typing.specs.Told.{mainFaultsIn, mainSlotRows, FormsJudged, SheetJudged};
 use code_typing::Walked;
@@ -14,7 +14,7 @@ use sheet_rules::Verdict;
 // The line of the first form: after the `types` line, the rows and the `forms` line.
 fn first_form_line(work: &[u16]) -> u32
     requires { ⌜ Whole (now work) ⌝ }
-    ensures { λ r. ⌜ (r ≡ firstFormLine (sheetIn (now (work .entry)))) × (r ≤ 600) ⌝ }
+    ensures { λ r. ⌜ (r ≡ firstFormLine (sheetIn (now (work .entry)))) × (r + 17505 ≤ lineLimit) ⌝ }
 {
     let count = table::rows::row_count(work);
     let mut line: u32 = 3;
@@ -28,7 +28,7 @@ fn first_form_line(work: &[u16]) -> u32
 
 // The lines of all forms.
 fn judge_forms(work: &mut [u16], first: u32) -> Walked
-    requires { ⌜ Whole (now work) × (first ≤ 600) ⌝ }
+    requires { ⌜ Whole (now work) × (first + 17472 ≤ lineLimit) ⌝ }
     ensures { λ r. ⌜ FormsJudged first (now (work .entry)) (now (work .exit)) r ⌝ }
 {
     let count = table::forms::form_count(work);
@@ -47,7 +47,7 @@ fn judge_forms(work: &mut [u16], first: u32) -> Walked
 
 // The `main` line and main's instructions.
 fn judge_main(work: &mut [u16], line: u32) -> Walked
-    requires { ⌜ Whole (now work) × (line ≤ 900000) ⌝ }
+    requires { ⌜ Whole (now work) × (line + 33 ≤ lineLimit) ⌝ }
     ensures { λ r. ⌜ CodeJudged (mainFaultsIn (now (work .entry))) (mainSlotRows (now (work .entry))) line (now (work .entry)) (now (work .exit)) r ⌝ }
 {
     let start = table::instrs::main_start(work);

@@ -5,7 +5,7 @@ use Rattle.authority.proofs.mark_frame.Tie as tie
 use Rattle.authority.proofs.mark_frame.Reads as reads
 use Rattle.authority.proofs.mark_frame.Lts as lts
 use Rattle.authority.proofs.frame_holder.Reads as frame-holder-reads
-use Rattle.marks.proofs.mark_all.Reads as mark-all-reads
+use Rattle.authority_marks.proofs.mark_all.Reads as mark-all-reads
 
 -- src/lib.rt:47:9
 frame-holder-requires : tie.Need-frame-holder-requires

@@ -1,23 +1,19 @@
-use Rattle.sheet_rules.specs.declared.Reason.the-variants.{BufferTooShort}
-use Rattle.authority_rules.specs.declared.AuthorityReply.{AuthorityReply}
-use Rattle.authority_rules.specs.AuthorityQuestion.{authorityHeld}
-use Rattle.authority_question.specs.Asked.{heldReply, heldNumbers}
-use Rattle.authority_question.proofs.AskedLaws.{short-work, short-result, asked-for}
+use Rattle.question.proofs.AskedLaws.{short-work, short-result, asked}
 use borrow.Author.Needs.{needs}
 use Rattle.authority_question.proofs.ask_authority.Statement.{statement}
 use Rattle.authority_question.proofs.ask_authority.Tie as tie
 use Rattle.authority_question.proofs.ask_authority.Reads as reads
 use Rattle.authority_question.proofs.ask_authority.Lts as lts
 use Rattle.authority_question.proofs.held_of.Reads as held-of-reads
-use Rattle.clear.proofs.clear.Reads as clear-reads
+use Rattle.question.proofs.clear.Reads as clear-reads
 
 -- src/lib.rt:64:9
 returns : tie.Need-returns
-returns c = short-work 256 (heldReply (authorityHeld (c .before .before .before .before .args .text .now) (c .before .before .before .before .args .budget) (c .before .before .before .before .args .h))) (AuthorityReply.Refused BufferTooShort 0) (heldNumbers (authorityHeld (c .before .before .before .before .args .text .now) (c .before .before .before .before .args .budget) (c .before .before .before .before .args .h))) (c .before .before .before .before .args .work .now) (c .before .before .before .before .args .result .now) (c .if1 .taken)
+returns c = short-work (c .if1 .taken)
 
 -- src/lib.rt:70:9
 returns-2 : tie.Need-returns-2
-returns-2 c = short-result 256 (heldReply (authorityHeld (c .before .before .before .before .before .args .text .now) (c .before .before .before .before .before .args .budget) (c .before .before .before .before .before .args .h))) (AuthorityReply.Refused BufferTooShort 0) (heldNumbers (authorityHeld (c .before .before .before .before .before .args .text .now) (c .before .before .before .before .before .args .budget) (c .before .before .before .before .before .args .h))) (c .before .before .before .before .before .args .work .now) (c .before .before .before .before .before .args .result .now) (c .before .if1 .left) (c .if2 .taken)
+returns-2 c = short-result (c .before .if1 .left) (c .if2 .taken)
 
 -- src/lib.rt:75:9
 held-of-requires : tie.Need-held-of-requires
@@ -37,7 +33,9 @@ same-length-2 c = search needs
 
 -- src/lib.rt:54:1
 returns-3 : tie.Need-returns-3
-returns-3 c = asked-for 256 (heldReply (authorityHeld (c .before .before .before .before .before .before .before .before .before .before .before .before .before .before .before .before .args .text .now) (c .before .before .before .before .before .before .before .before .before .before .before .before .before .before .before .before .args .budget) (c .before .before .before .before .before .before .before .before .before .before .before .before .before .before .before .before .args .h))) (AuthorityReply.Refused BufferTooShort 0) (heldNumbers (authorityHeld (c .before .before .before .before .before .before .before .before .before .before .before .before .before .before .before .before .args .text .now) (c .before .before .before .before .before .before .before .before .before .before .before .before .before .before .before .before .args .budget) (c .before .before .before .before .before .before .before .before .before .before .before .before .before .before .before .before .args .h))) (c .before .before .before .before .before .before .before .before .before .before .before .before .before .before .before .before .args .work .now) (c .before .before .before .before .before .before .before .before .before .before .before .before .before .before .before .before .args .result .now) (c .before .before .before .before .before .before .before .before .before .before .before .before .if1 .left) (c .before .before .before .before .before .before .before .before .before .before .before .if2 .left) (c .before .before .before .before .before .before .before .before .held-of .last .1 .1 .1 .0) (c .before .before .before .before .before .before .before .before .held-of .last .1 .1 .1 .1 .0) (c .before .before .before .before .before .before .before .before .held-of .result) (c .before .before .before .before .before .before .before .before .held-of .ensures) (c .before .before .clear .last .0) (c .before .before .clear .ensures)
+returns-3 c =
+    let b = c .before .before .before .before .before .before .before .before in
+    asked (b .before .before .before .before .if1 .left) (b .before .before .before .if2 .left) (b .held-of .ensures) (c .before .before .clear .ensures)
 
 pub ask-authority-spec : {M : Type 1} → statement M
 ask-authority-spec =

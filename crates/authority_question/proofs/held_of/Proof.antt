@@ -1,4 +1,3 @@
-use Rattle.run_question.proofs.ReplyLaws.{accepted-judged}
 use Rattle.authority_question.proofs.HeldLaws.{held-accepted, held-refused}
 use borrow.Author.Needs.{needs}
 use Rattle.authority_question.proofs.held_of.Statement.{statement}
@@ -6,7 +5,7 @@ use Rattle.authority_question.proofs.held_of.Tie as tie
 use Rattle.authority_question.proofs.held_of.Reads as reads
 use Rattle.authority_question.proofs.held_of.Lts as lts
 use Rattle.authority_question.proofs.held_in.Reads as held-in-reads
-use Rattle.verdict.proofs.judge_text.Reads as judge-text-reads
+use Rattle.verdict_question.proofs.judge_text.Reads as judge-text-reads
 
 -- src/lib.rt:45:9
 judge-text-requires : tie.Need-judge-text-requires
@@ -18,7 +17,9 @@ enum-told c = search needs
 
 -- src/lib.rt:47:30
 held-in-requires : tie.Need-held-in-requires
-held-in-requires c κs = (accepted-judged (c .before .before .before .before .before .before .before .before .before .before .before .args .text .now) (c .before .before .before .before .before .before .before .before .before .before .before .args .work .now) (c .before .before .before .before .before .before .judge-text .last .1 .0) (c .before .before .before .before .before .before .judge-text .result) (c .before .before .before .before .before .before .before .before .before .before .before .pre .0) (c .before .before .before .before .before .before .judge-text .ensures) (c .before .before .enum-told .given .1), (c .before .before .before .before .before .before .before .before .before .before .before .pre .1))
+held-in-requires c κs =
+    let b = c .before .before .before .before .before .before in
+    (b .judge-text .ensures .accepted (c .before .before .enum-told .given .1), b .before .before .before .before .before .pre .1)
 
 -- src/lib.rt:48:28
 enum-known-judged : tie.Need-enum-known-judged
@@ -34,7 +35,11 @@ same-length-2 c = search needs
 
 -- src/lib.rt:41:1
 returns : tie.Need-returns
-returns c = held-accepted (c .before .before .before .before .before .before .before .before .before .before .before .before .before .before .before .before .args .text .now) (c .before .before .before .before .before .before .before .before .before .before .before .before .before .before .before .before .args .budget) (c .before .before .before .before .before .before .before .before .before .before .before .before .before .before .before .before .args .h) (c .before .before .before .before .before .before .before .before .before .before .before .before .before .before .before .before .args .work .now) (c .before .before .before .before .before .before .before .before .before .before .before .judge-text .last .1 .0) (c .before .before .before .before .before .before .before .before .before .before .before .judge-text .result) (c .before .before .before .before .before .before .before .before .before .before .before .judge-text .ensures) (c .before .before .before .before .before .before .before .before .before .before .before .before .before .before .before .before .args .result .now) (c .before .before .before .before .before .before .before .enum-told .given .1) (c .before .before .before .before .held-in .last .0) (c .before .before .before .before .held-in .last .1 .1 .1 .0) (c .before .before .before .before .held-in .result) (c .before .before .before .before .held-in .ensures)
+returns c =
+    let b = c .before .before .before .before in
+    let j = b .before .before .before .before .before .before .before in
+    let a = j .before .before .before .before .before in
+    held-accepted (j .judge-text .ensures) (a .args .budget) (a .args .h) (b .before .before .before .enum-told .given .1) (b .held-in .ensures)
 
 -- src/lib.rt:41:1
 same-length-3 : tie.Need-same-length-3
@@ -42,7 +47,10 @@ same-length-3 c = search needs
 
 -- src/lib.rt:41:1
 returns-2 : tie.Need-returns-2
-returns-2 c = held-refused (c .before .before .before .before .before .before .before .before .before .before .args .text .now) (c .before .before .before .before .before .before .before .before .before .before .args .budget) (c .before .before .before .before .before .before .before .before .before .before .args .h) (c .before .before .before .before .before .before .before .before .before .before .args .work .now) (c .before .before .before .before .before .judge-text .last .1 .0) (c .before .before .before .before .before .judge-text .result) (c .before .before .before .before .before .judge-text .ensures) (c .before .before .before .before .before .before .before .before .before .before .args .result .now) (c .before .judged .given .0 .0) (c .before .judged .given .0 .1 .0) (c .before .judged .given .1)
+returns-2 c =
+    let j = c .before .before .before .before .before in
+    let a = j .before .before .before .before .before in
+    held-refused (j .judge-text .ensures) (a .args .budget) (a .args .h) (c .before .judged .given .1)
 
 pub held-of-spec : {M : Type 1} → statement M
 held-of-spec =

@@ -3,7 +3,7 @@ use native.Mathlib.Omega.{arith}
 use mathlib.Core.Path.{sym, ap₂, _∙_}
 use borrow.Author.Tests.{not-true, not-false}
 use Rattle.sheet_rules.specs.RowLines.{sameMember}
-use Rattle.twins.proofs.TwinLaws.{member-equal}
+use Rattle.row_twins.proofs.TwinLaws.{member-equal}
 use Rattle.fit.specs.Told.{Alike}
 use Rattle.fit.proofs.MatchLaws.{alike-none, alike-next}
 use Rattle.fit.proofs.alike.Statement.{statement}

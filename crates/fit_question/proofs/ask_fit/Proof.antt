@@ -1,18 +1,15 @@
-use Rattle.sheet_rules.specs.declared.Reason.the-variants.{BufferTooShort}
-use Rattle.type_rules.specs.declared.FitReply.{FitReply}
-use Rattle.type_rules.specs.FitQuestion.{fitReply}
-use Rattle.clear.proofs.AnswerLaws.{asked-short, asked}
+use Rattle.question.proofs.AskedLaws.{short-alone, asked-alone}
 use borrow.Author.Needs.{needs}
 use Rattle.fit_question.proofs.ask_fit.Statement.{statement}
 use Rattle.fit_question.proofs.ask_fit.Tie as tie
 use Rattle.fit_question.proofs.ask_fit.Reads as reads
 use Rattle.fit_question.proofs.ask_fit.Lts as lts
-use Rattle.clear.proofs.clear.Reads as clear-reads
+use Rattle.question.proofs.clear.Reads as clear-reads
 use Rattle.fit_question.proofs.reply.Reads as reply-reads
 
 -- src/lib.rt:54:9
 returns : tie.Need-returns
-returns c = asked-short (fitReply (c .before .before .before .args .text .now) (c .before .before .before .args .a) (c .before .before .before .args .b)) (FitReply.Refused BufferTooShort 0) (c .before .before .before .args .work .now) (c .if1 .taken)
+returns c = short-alone (c .if1 .taken)
 
 -- src/lib.rt:59:9
 reply-requires : tie.Need-reply-requires
@@ -28,7 +25,9 @@ same-length c = search needs
 
 -- src/lib.rt:50:1
 returns-2 : tie.Need-returns-2
-returns-2 c = asked (fitReply (c .before .before .before .before .before .before .before .before .before .before .before .args .text .now) (c .before .before .before .before .before .before .before .before .before .before .before .args .a) (c .before .before .before .before .before .before .before .before .before .before .before .args .b)) (FitReply.Refused BufferTooShort 0) (c .before .before .before .before .before .before .before .before .before .before .before .args .work .now) (c .before .before .before .before .before .before .before .before .if1 .left) (c .before .before .before .before .before .before .reply .last .1 .1 .1 .0) (c .before .before .before .before .before .before .reply .result) (c .before .before .before .before .before .before .reply .ensures) (c .before .before .clear .last .0) (c .before .before .clear .ensures)
+returns-2 c =
+    let b = c .before .before .before .before .before .before in
+    asked-alone (b .before .before .if1 .left) (b .reply .ensures) (c .before .before .clear .ensures)
 
 pub ask-fit-spec : {M : Type 1} → statement M
 ask-fit-spec = tie.close (tie.spec returns reply-requires clear-requires same-length returns-2)

@@ -4,7 +4,7 @@ use mathlib.Core.List.{[], _∷_}
 use borrow.Author.Tests.{not-true, not-false}
 use Rattle.sheet_rules.specs.declared.Operation.{Operation}
 use Rattle.sheet_rules.specs.declared.Place.{Place}
-use Rattle.judges.proofs.PlaceLaws.{other-place}
+use Rattle.line_judges.proofs.PlaceLaws.{other-place}
 use Rattle.instr_judge.proofs.InstrLaws.{instr-malformed, instr-name, instr-not, instr-good}
 use borrow.Author.Needs.{needs}
 use Rattle.instr_judge.proofs.instr_line.Statement.{statement}

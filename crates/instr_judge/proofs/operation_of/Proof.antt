@@ -1,5 +1,5 @@
 use mathlib.Core.List.{[], _∷_}
-use Rattle.judges.proofs.PlaceLaws.{no-instruction}
+use Rattle.line_judges.proofs.PlaceLaws.{no-instruction}
 use borrow.Author.Needs.{needs}
 use Rattle.instr_judge.proofs.operation_of.Statement.{statement}
 use Rattle.instr_judge.proofs.operation_of.Tie as tie

@@ -4,7 +4,7 @@ use Rattle.sheet_rules.specs.Reader.{one}
 use Rattle.sheet_rules.specs.FormLines.{instrLine}
 use Rattle.table.specs.Layout.{instrAddress}
 use Rattle.table.specs.View.{instrIn}
-use Rattle.read_loop.proofs.LoopLaws.{going-start, going-next, going-stop, going-end}
+use Rattle.reader_loop.proofs.LoopLaws.{going-start, going-next, going-stop, going-end}
 use Rattle.instr_reader.proofs.InstrsLaws.{InstrsGoing, instr-turn, instrs-read}
 use borrow.Author.Needs.{needs}
 use native.Mathlib.Omega.{arith}

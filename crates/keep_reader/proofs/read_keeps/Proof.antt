@@ -3,7 +3,7 @@ use Rattle.sheet_rules.specs.declared.Place.{Place}
 use Rattle.sheet_rules.specs.Reader.{one, existingLine}
 use Rattle.table.specs.Layout.{formAddress, keepAddress}
 use Rattle.table.specs.View.{cell}
-use Rattle.read_loop.proofs.LoopLaws.{going-start, going-next, going-stop, going-end}
+use Rattle.reader_loop.proofs.LoopLaws.{going-start, going-next, going-stop, going-end}
 use Rattle.keep_reader.proofs.KeepsLaws.{KeepsGoing, keep-turn}
 use borrow.Author.Needs.{needs}
 use native.Mathlib.Omega.{arith}

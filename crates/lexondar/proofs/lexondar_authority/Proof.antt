@@ -1,8 +1,4 @@
-use Rattle.sheet_rules.specs.declared.Reason.the-variants.{BufferTooShort}
-use Rattle.authority_rules.specs.declared.AuthorityReply.{AuthorityReply}
-use Rattle.authority_rules.specs.AuthorityQuestion.{authorityHeld}
-use Rattle.authority_question.specs.Asked.{heldReply, heldNumbers}
-use Rattle.authority_question.proofs.AskedLaws.{asked-for-as}
+use Rattle.question.proofs.AskedLaws.{asked-as}
 use Rattle.results.specs.Results.{authorityResult}
 use borrow.Author.Needs.{needs}
 use Rattle.lexondar.proofs.lexondar_authority.Statement.{statement}
@@ -30,7 +26,7 @@ same-length-2 c = search needs
 
 -- src/held.rt:56:1
 returns : tie.Need-returns
-returns c = asked-for-as authorityResult 256 (heldReply (authorityHeld (c .before .before .before .before .before .before .before .before .before .before .before .args .text .now) (c .before .before .before .before .before .before .before .before .before .before .before .args .budget) (c .before .before .before .before .before .before .before .before .before .before .before .args .h))) (AuthorityReply.Refused BufferTooShort 0) (heldNumbers (authorityHeld (c .before .before .before .before .before .before .before .before .before .before .before .args .text .now) (c .before .before .before .before .before .before .before .before .before .before .before .args .budget) (c .before .before .before .before .before .before .before .before .before .before .before .args .h))) (c .before .before .before .before .before .before .before .before .before .before .before .args .work .now) (c .before .before .before .before .before .before .before .before .before .before .before .args .result .now) (c .before .before .before .before .before .ask-authority .last .1 .1 .1 .0) (c .before .before .before .before .before .ask-authority .last .1 .1 .1 .1 .0) (c .before .before .before .before .before .ask-authority .result) (c .authority-result .result) (c .before .before .before .before .before .ask-authority .ensures) (c .authority-result .ensures)
+returns c = asked-as authorityResult (c .before .before .before .before .before .ask-authority .ensures) (c .authority-result .ensures)
 
 pub lexondar-authority-spec : {M : Type 1} → statement M
 lexondar-authority-spec =

@@ -1,7 +1,4 @@
-use Rattle.sheet_rules.specs.declared.Reason.the-variants.{BufferTooShort}
-use Rattle.type_rules.specs.declared.FitReply.{FitReply}
-use Rattle.type_rules.specs.FitQuestion.{fitReply}
-use Rattle.clear.proofs.AnswerLaws.{asked-as}
+use Rattle.question.proofs.AskedLaws.{asked-as}
 use Rattle.results.specs.Results.{fitResult}
 use borrow.Author.Needs.{needs}
 use Rattle.lexondar.proofs.lexondar_fit.Statement.{statement}
@@ -25,7 +22,7 @@ same-length c = search needs
 
 -- src/lib.rt:73:1
 returns : tie.Need-returns
-returns c = asked-as fitResult (fitReply (c .before .before .before .before .before .before .before .args .text .now) (c .before .before .before .before .before .before .before .args .a) (c .before .before .before .before .before .before .before .args .b)) (FitReply.Refused BufferTooShort 0) (c .before .before .before .before .before .before .before .args .work .now) (c .before .before .before .ask-fit .last .1 .1 .1 .0) (c .before .before .before .ask-fit .result) (c .fit-result .result) (c .before .before .before .ask-fit .ensures) (c .fit-result .ensures)
+returns c = asked-as fitResult (c .before .before .before .ask-fit .ensures) (c .fit-result .ensures)
 
 pub lexondar-fit-spec : {M : Type 1} → statement M
 lexondar-fit-spec = tie.close (tie.spec ask-fit-requires fit-result-requires same-length returns)

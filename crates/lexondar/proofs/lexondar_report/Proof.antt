@@ -1,9 +1,4 @@
-use Rattle.sheet_rules.specs.declared.Reason.the-variants.{BufferTooShort}
-use Rattle.authority_rules.specs.declared.ReportReply.{ReportReply}
-use Rattle.authority_rules.specs.Report.{report}
-use Rattle.authority.specs.Every.{everySize}
-use Rattle.authority_question.specs.Asked.{reportReply, reportNumbers}
-use Rattle.authority_question.proofs.AskedLaws.{asked-for-as}
+use Rattle.question.proofs.AskedLaws.{asked-as}
 use Rattle.results.specs.Results.{reportResult}
 use borrow.Author.Needs.{needs}
 use Rattle.lexondar.proofs.lexondar_report.Statement.{statement}
@@ -31,7 +26,7 @@ same-length-2 c = search needs
 
 -- src/held.rt:99:1
 returns : tie.Need-returns
-returns c = asked-for-as reportResult everySize (reportReply (report (c .before .before .before .before .before .before .before .before .before .before .before .args .text .now) (c .before .before .before .before .before .before .before .before .before .before .before .args .budget))) (ReportReply.Refused BufferTooShort 0) (reportNumbers (report (c .before .before .before .before .before .before .before .before .before .before .before .args .text .now) (c .before .before .before .before .before .before .before .before .before .before .before .args .budget))) (c .before .before .before .before .before .before .before .before .before .before .before .args .work .now) (c .before .before .before .before .before .before .before .before .before .before .before .args .result .now) (c .before .before .before .before .before .ask-report .last .1 .1 .0) (c .before .before .before .before .before .ask-report .last .1 .1 .1 .0) (c .before .before .before .before .before .ask-report .result) (c .report-result .result) (c .before .before .before .before .before .ask-report .ensures) (c .report-result .ensures)
+returns c = asked-as reportResult (c .before .before .before .before .before .ask-report .ensures) (c .report-result .ensures)
 
 pub lexondar-report-spec : {M : Type 1} → statement M
 lexondar-report-spec =

@@ -1,7 +1,4 @@
-use Rattle.sheet_rules.specs.declared.Reason.the-variants.{BufferTooShort}
-use Rattle.machine_rules.specs.declared.RunReply.{RunReply}
-use Rattle.machine_rules.specs.Steps.{runReply}
-use Rattle.clear.proofs.AnswerLaws.{asked-as}
+use Rattle.question.proofs.AskedLaws.{asked-as}
 use Rattle.results.specs.Results.{runResult}
 use borrow.Author.Needs.{needs}
 use Rattle.lexondar.proofs.lexondar_run.Statement.{statement}
@@ -25,7 +22,7 @@ same-length c = search needs
 
 -- src/lib.rt:159:1
 returns : tie.Need-returns
-returns c = asked-as runResult (runReply (c .before .before .before .before .before .before .before .args .text .now) (c .before .before .before .before .before .before .before .args .budget)) (RunReply.Refused BufferTooShort 0) (c .before .before .before .before .before .before .before .args .work .now) (c .before .before .before .ask-run .last .1 .1 .0) (c .before .before .before .ask-run .result) (c .run-result .result) (c .before .before .before .ask-run .ensures) (c .run-result .ensures)
+returns c = asked-as runResult (c .before .before .before .ask-run .ensures) (c .run-result .ensures)
 
 pub lexondar-run-spec : {M : Type 1} → statement M
 lexondar-run-spec = tie.close (tie.spec ask-run-requires run-result-requires same-length returns)

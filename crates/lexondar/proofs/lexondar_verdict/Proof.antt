@@ -1,7 +1,4 @@
-use Rattle.sheet_rules.specs.declared.Reason.the-variants.{BufferTooShort}
-use Rattle.sheet_rules.specs.declared.Verdict.{Verdict}
-use Rattle.type_rules.specs.Typing.{verdict}
-use Rattle.clear.proofs.AnswerLaws.{asked-as}
+use Rattle.question.proofs.AskedLaws.{asked-as}
 use Rattle.results.specs.Results.{verdictResult}
 use borrow.Author.Needs.{needs}
 use Rattle.lexondar.proofs.lexondar_verdict.Statement.{statement}
@@ -9,7 +6,7 @@ use Rattle.lexondar.proofs.lexondar_verdict.Tie as tie
 use Rattle.lexondar.proofs.lexondar_verdict.Reads as reads
 use Rattle.lexondar.proofs.lexondar_verdict.Lts as lts
 use Rattle.results.proofs.verdict_result.Reads as verdict-result-reads
-use Rattle.verdict.proofs.ask_verdict.Reads as ask-verdict-reads
+use Rattle.verdict_question.proofs.ask_verdict.Reads as ask-verdict-reads
 
 -- src/lib.rt:101:20
 ask-verdict-requires : tie.Need-ask-verdict-requires
@@ -25,7 +22,7 @@ same-length c = search needs
 
 -- src/lib.rt:97:1
 returns : tie.Need-returns
-returns c = asked-as verdictResult (verdict (c .before .before .before .before .before .before .before .args .text .now)) (Verdict.Refused BufferTooShort 0) (c .before .before .before .before .before .before .before .args .work .now) (c .before .before .before .ask-verdict .last .1 .0) (c .before .before .before .ask-verdict .result) (c .verdict-result .result) (c .before .before .before .ask-verdict .ensures) (c .verdict-result .ensures)
+returns c = asked-as verdictResult (c .before .before .before .ask-verdict .ensures) (c .verdict-result .ensures)
 
 pub lexondar-verdict-spec : {M : Type 1} → statement M
 lexondar-verdict-spec =

@@ -1,5 +1,5 @@
 use mathlib.Core.Path.{sym, ap}
-use Rattle.judges.specs.declared.LineJudged.{LineJudged}
+use Rattle.line_judges.specs.declared.LineJudged.{LineJudged}
 use Rattle.line_reader.specs.Told.{settled}
 use borrow.Author.Needs.{needs}
 use Rattle.line_reader.proofs.settle.Statement.{statement}

@@ -3,8 +3,8 @@ use native.Mathlib.Omega.{arith}
 use mathlib.Core.Path.{_∙_}
 use borrow.Fn.Kinds.{In}
 use borrow.Fn.PlainCycle.{Measures, is, falls, and}
-use Rattle.authority_rules.specs.Printed.{decimal}
-use Rattle.authority_rules.proofs.DecimalLaws.{tenth, digit-small}
+use Rattle.sheet_rules.specs.Decimals.{decimal}
+use Rattle.sheet_rules.proofs.DecimalLaws.{tenth, digit-small}
 use Rattle.line_writer.proofs.PutLaws.{put-size, digit-put, last-inside, digits-put}
 use Rattle.line_writer.proofs.put_decimal.Reads as put-decimal
 use Rattle.line_writer.proofs.put_decimal.Kinds as put-decimal-kinds

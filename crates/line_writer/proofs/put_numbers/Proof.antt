@@ -2,7 +2,7 @@ use Prim.Native.Nat.{ℕ, _-_, _*_, _≤_}
 use native.Mathlib.Omega.{arith}
 use mathlib.Core.Path.{_≡_, subst}
 use lib.ListN.{take, drop}
-use Rattle.authority_rules.specs.Printed.{further}
+use Rattle.sheet_rules.specs.Decimals.{further}
 use Rattle.line_writer.specs.Put.{Put}
 use Rattle.line_writer.proofs.PutLaws.{numbers-start, numbers-size, comma-inside, number-inside, numbers-next}
 use borrow.Author.Needs.{needs}

@@ -5,7 +5,7 @@ use Rattle.machine_rules.specs.declared.Outcome.{Outcome}
 use Rattle.machine_rules.specs.declared.Tally.{Tally}
 use Rattle.machine_state.specs.declared.Top.{Top}
 use Rattle.machine.specs.declared.Move.{Move}
-use Rattle.machine.specs.Runs.{Moved, startTop, Halted}
+use Rattle.machine.specs.Runs.{Moved, startTop, SheetRun}
 use Rattle.machine.proofs.MoveLaws.{moved-size}
 use Rattle.machine.proofs.RunLaws.{Going, going-start, going-step, going-ends}
 use Rattle.machine.proofs.run.Statement.{statement}
@@ -56,7 +56,7 @@ same-length c = moved-size (c .before .before .before .before .before .before .l
 -- src/lib.rt:156:13
 returns : tie.Need-returns Inv-loop μ-loop
 returns c =
-    subst (λ (x : Outcome). Halted (c .before .before .before .before .before .before .before .before .before .before .before .args .work .now) (c .before .before .before .before .before .before .before .before .before .before .before .args .budget) (c .before .before .before .before .advance .last .0) (record { outcome = x; top = (c .before .before .before .before .before .before .loop .top); tally = (c .before .before .before .before .before .before .loop .tally) })) (sym (c .outcome-of .ensures))
+    subst (λ (x : Outcome). SheetRun (c .before .before .before .before .before .before .before .before .before .before .before .args .work .now) (c .before .before .before .before .before .before .before .before .before .before .before .args .budget) (c .before .before .before .before .advance .last .0) (record { outcome = x; top = (c .before .before .before .before .before .before .loop .top); tally = (c .before .before .before .before .before .before .loop .tally) })) (sym (c .outcome-of .ensures))
     (going-ends (c .before .before .before .before .before .before .before .before .before .before .before .args .work .now) (c .before .before .before .before .before .before .before .before .before .before .before .args .budget) (c .before .before .before .before .before .before .loop .work) (c .before .before .before .before .before .before .loop .top) (c .before .before .before .before .before .before .loop .tally) (c .before .before .before .before .before .before .loop .inv) (c .before .before .before .before .advance .last .0) (c .before .before .before .before .advance .result) (c .before .before .before .before .advance .ensures) (c .before .match .keys2))
 
 -- src/lib.rt:153:5

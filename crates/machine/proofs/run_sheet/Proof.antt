@@ -1,11 +1,11 @@
-use Rattle.machine.proofs.RunLaws.{judged-able, sheet-run}
+use Rattle.machine.proofs.RunLaws.{located-able, sheet-run}
 use borrow.Author.Needs.{needs}
 use Rattle.machine.proofs.run_sheet.Statement.{statement}
 use Rattle.machine.proofs.run_sheet.Tie as tie
 use Rattle.machine.proofs.run_sheet.Reads as reads
 use Rattle.machine.proofs.run_sheet.Lts as lts
 use Rattle.machine.proofs.run.Reads as run-reads
-use Rattle.member_places.proofs.locate.Reads as locate-reads
+use Rattle.machine_places.proofs.locate.Reads as locate-reads
 
 -- src/lib.rt:179:5
 locate-requires : tie.Need-locate-requires
@@ -13,7 +13,7 @@ locate-requires c κs = search needs
 
 -- src/lib.rt:180:5
 run-requires : tie.Need-run-requires
-run-requires c κs = judged-able (c .before .before .before .before .before .before .args .work .now) (c .before .before .before .locate .last .0) (c .before .before .before .before .before .before .pre) (c .before .before .before .locate .ensures)
+run-requires c κs = located-able (c .before .before .before .before .before .before .args .work .now) (c .before .before .before .locate .last .0) (c .before .before .before .before .before .before .pre) (c .before .before .before .locate .ensures)
 
 -- src/lib.rt:175:1
 same-length : tie.Need-same-length

@@ -12,7 +12,7 @@ use Rattle.machine_state.proofs.field.Reads as field-reads
 use Rattle.machine_state.proofs.form_of.Reads as form-of-reads
 use Rattle.machine_steps.proofs.fill_slot.Reads as fill-slot-reads
 use Rattle.machine_steps.proofs.frame_of.Reads as frame-of-reads
-use Rattle.member_places.proofs.place.Reads as place-reads
+use Rattle.machine_places.proofs.place.Reads as place-reads
 
 -- src/lib.rt:57:13
 sub-o : tie.Need-sub-o

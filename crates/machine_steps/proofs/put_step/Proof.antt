@@ -2,7 +2,7 @@ use Prim.Native.Nat.{_-_}
 use mathlib.Core.Path.{refl, ap, _∙_}
 use lib.ListN.{length, length-set}
 use Rattle.sheet_rules.specs.Sheet.{put}
-use Rattle.machine_state.specs.Held.{fieldAddress}
+use Rattle.table.specs.Layout.{fieldAddress}
 use Rattle.machine_steps.proofs.FacingLaws.{size, fill-asks, slot-asks}
 use Rattle.machine_steps.proofs.OwnLaws.{own-some, name-small, o-small, f-small, p-small, put-ready, put-filled, put-took}
 use borrow.Author.Needs.{needs}
@@ -15,7 +15,7 @@ use Rattle.machine_state.proofs.put_field.Reads as put-field-reads
 use Rattle.machine_state.proofs.slot.Reads as slot-reads
 use Rattle.machine_steps.proofs.fill_slot.Reads as fill-slot-reads
 use Rattle.machine_steps.proofs.frame_of.Reads as frame-of-reads
-use Rattle.member_places.proofs.place.Reads as place-reads
+use Rattle.machine_places.proofs.place.Reads as place-reads
 
 -- src/lib.rt:68:9
 frame-of-requires : tie.Need-frame-of-requires

@@ -1,4 +1,4 @@
-use Rattle.read_loop.proofs.ThenLaws.{past-room}
+use Rattle.reader_loop.proofs.ThenLaws.{past-room}
 use Rattle.part_reader.proofs.PartLaws.{method-refused, body-some, body-whole, method-read}
 use borrow.Author.Needs.{needs}
 use Rattle.part_reader.proofs.read_method.Statement.{statement}

@@ -1,5 +1,5 @@
 use mathlib.Core.Path.{ap, _∙_}
-use Rattle.read_loop.proofs.ThenLaws.{past-room}
+use Rattle.reader_loop.proofs.ThenLaws.{past-room}
 use Rattle.reader.specs.Reads.{progressVerdict, poolVerdict}
 use Rattle.reader.proofs.SheetLaws.{forms-line-refused, forms-few, forms-refused, forms-ready, forms-room, forms-used, forms-main}
 use Rattle.line_reader.specs.Told.{stoppedBy}

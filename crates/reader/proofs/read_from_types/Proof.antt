@@ -1,6 +1,6 @@
 use native.Mathlib.Omega.{arith}
 use mathlib.Core.Path.{ap, _∙_}
-use Rattle.read_loop.proofs.ThenLaws.{past-room}
+use Rattle.reader_loop.proofs.ThenLaws.{past-room}
 use Rattle.reader.specs.Reads.{progressVerdict}
 use Rattle.reader.proofs.SheetLaws.{types-refused, types-few, rows-refused, rows-room, rows-then-ready, rows-forms}
 use Rattle.line_reader.specs.Told.{stoppedBy}

@@ -2,7 +2,7 @@ use Rattle.sheet_rules.specs.Reader.{one}
 use Rattle.sheet_rules.specs.RowLines.{memberLine}
 use Rattle.table.specs.Layout.{rowAddress}
 use Rattle.table.specs.View.{memberIn, rowsIn}
-use Rattle.read_loop.proofs.LoopLaws.{going-start, going-next, going-stop, going-end}
+use Rattle.reader_loop.proofs.LoopLaws.{going-start, going-next, going-stop, going-end}
 use Rattle.row_reader.specs.Reads.{headingIn}
 use Rattle.row_reader.proofs.MembersLaws.{MembersGoing, going-in, member-turn}
 use borrow.Author.Needs.{needs}

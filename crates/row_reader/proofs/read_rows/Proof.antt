@@ -1,7 +1,7 @@
 use Rattle.sheet_rules.specs.RowLines.{readRow}
 use Rattle.table.specs.Layout.{rowAddress}
 use Rattle.table.specs.View.{rowIn}
-use Rattle.read_loop.proofs.LoopLaws.{going-start, going-next, going-stop, going-end}
+use Rattle.reader_loop.proofs.LoopLaws.{going-start, going-next, going-stop, going-end}
 use Rattle.row_reader.proofs.RowsLaws.{RowsGoing, row-turn}
 use borrow.Author.Needs.{needs}
 use native.Mathlib.Omega.{arith}

@@ -1,7 +1,7 @@
 use mathlib.Core.Path.{_≡_, sym, ap, subst}
 use native.Mathlib.Omega.{arith}
 use Prim.Native.Nat.{ℕ, suc, _+_, _-_}
-use Rattle.judges.specs.Told.{Lowest}
+use Rattle.line_judges.specs.Told.{Lowest}
 use Rattle.table.specs.View.{memberIn, membersIn}
 use Rattle.row_store.proofs.NameLaws.{lowest-none, lowest-after}
 use borrow.Author.Needs.{needs}

@@ -1,11 +1,11 @@
-use Rattle.run_question.proofs.ReplyLaws.{reply-refused, accepted-judged, reply-ran}
+use Rattle.run_question.proofs.ReplyLaws.{reply-refused, reply-ran}
 use borrow.Author.Needs.{needs}
 use Rattle.run_question.proofs.run_text.Statement.{statement}
 use Rattle.run_question.proofs.run_text.Tie as tie
 use Rattle.run_question.proofs.run_text.Reads as reads
 use Rattle.run_question.proofs.run_text.Lts as lts
 use Rattle.machine.proofs.answer_sheet.Reads as answer-sheet-reads
-use Rattle.verdict.proofs.judge_text.Reads as judge-text-reads
+use Rattle.verdict_question.proofs.judge_text.Reads as judge-text-reads
 
 -- src/lib.rt:17:9
 judge-text-requires : tie.Need-judge-text-requires
@@ -17,7 +17,7 @@ enum-told c = search needs
 
 -- src/lib.rt:20:21
 answer-sheet-requires : tie.Need-answer-sheet-requires
-answer-sheet-requires c κs = accepted-judged (c .before .before .before .before .before .before .before .before .before .args .text .now) (c .before .before .before .before .before .before .before .before .before .args .work .now) (c .before .before .before .before .before .judge-text .last .1 .0) (c .before .before .before .before .before .judge-text .result) (c .before .before .before .before .before .before .before .before .before .pre) (c .before .before .before .before .before .judge-text .ensures) (c .before .enum-told .given .1)
+answer-sheet-requires c κs = c .before .before .before .before .before .judge-text .ensures .accepted (c .before .enum-told .given .1)
 
 -- src/lib.rt:22:28
 enum-known-judged : tie.Need-enum-known-judged
@@ -30,8 +30,8 @@ same-length c = search needs
 -- src/lib.rt:13:1
 returns : tie.Need-returns
 returns c =
-    reply-ran (c .before .before .before .before .before .before .before .before .before .before .before .before .args .text .now) (c .before .before .before .before .before .before .before .before .before .before .before .before .args .work .now) (c .before .before .before .before .before .before .before .before .judge-text .last .1 .0) (c .before .before .before .before .before .before .before .before .before .before .before .before .args .budget) (c .before .before .before .before .before .before .before .before .judge-text .result) (c .before .before .before .before .before .before .before .before .judge-text .ensures) (c .before .before .before .before .enum-told .given .1)
-    (c .before .before .answer-sheet .last .0) (c .before .before .answer-sheet .result) (c .before .before .answer-sheet .ensures)
+    let b = c .before .before .before .before in
+    reply-ran (b .before .before .before .before .judge-text .ensures) (b .before .before .before .before .before .before .before .before .args .budget) (b .enum-told .given .1) (c .before .before .answer-sheet .ensures)
 
 -- src/lib.rt:13:1
 same-length-2 : tie.Need-same-length-2
@@ -40,7 +40,8 @@ same-length-2 c = search needs
 -- src/lib.rt:13:1
 returns-2 : tie.Need-returns-2
 returns-2 c =
-    reply-refused (c .before .before .before .before .before .before .before .before .before .args .text .now) (c .before .before .before .before .before .before .before .before .before .args .work .now) (c .before .before .before .before .before .judge-text .last .1 .0) (c .before .before .before .before .before .before .before .before .before .args .budget) (c .before .before .before .before .before .judge-text .result) (c .before .before .before .before .before .judge-text .ensures) (c .before .judged .given .0 .0) (c .before .judged .given .0 .1 .0) (c .before .judged .given .1)
+    let b = c .before .before .before .before .before in
+    reply-refused (b .judge-text .ensures) (b .before .before .before .before .args .budget) (c .before .judged .given .1)
 
 pub run-text-spec : {M : Type 1} → statement M
 run-text-spec =

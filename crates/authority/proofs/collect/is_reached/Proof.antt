@@ -10,7 +10,7 @@ use Rattle.authority.proofs.collect.is_reached.Tie as tie
 use Rattle.authority.proofs.collect.is_reached.Reads as reads
 use Rattle.authority.proofs.collect.is_reached.Lts as lts
 use Rattle.authority.proofs.is_resource.Reads as is-resource-reads
-use Rattle.marks.proofs.is_marked.Reads as is-marked-reads
+use Rattle.authority_marks.proofs.is_marked.Reads as is-marked-reads
 
 -- src/collect.rt:15:9
 is-marked-requires : tie.Need-is-marked-requires

@@ -1,5 +1,5 @@
 use mathlib.Core.Path.{sym, ap}
-use Rattle.member_places.specs.Placed.{fieldsAfter}
+use Rattle.machine_places.specs.Placed.{fieldsAfter}
 use Rattle.sheet_rules.specs.declared.Member.{Member}
 use borrow.Author.Needs.{needs}
 use Rattle.authority.proofs.own.fields_with.Statement.{statement}

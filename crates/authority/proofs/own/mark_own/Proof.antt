@@ -10,8 +10,8 @@ use Rattle.authority.proofs.own.mark_own.Reads as reads
 use Rattle.authority.proofs.own.mark_own.Lts as lts
 use Rattle.authority.proofs.own.field_count.Reads as field-count-reads
 use Rattle.machine_state.proofs.form_of.Reads as form-of-reads
-use Rattle.marks.proofs.mark.Reads as mark-reads
-use Rattle.marks.proofs.mark_all.Reads as mark-all-reads
+use Rattle.authority_marks.proofs.mark.Reads as mark-reads
+use Rattle.authority_marks.proofs.mark_all.Reads as mark-all-reads
 use Rattle.table.proofs.forms.keeps_of.Reads as keeps-of-reads
 
 -- src/own.rt:51:9

@@ -1,4 +1,3 @@
-use Rattle.run_question.proofs.ReplyLaws.{accepted-judged}
 use Rattle.authority_question.proofs.ReportLaws.{report-accepted, report-refused}
 use borrow.Author.Needs.{needs}
 use Rattle.authority_question.proofs.report.report_of.Statement.{statement}
@@ -6,7 +5,7 @@ use Rattle.authority_question.proofs.report.report_of.Tie as tie
 use Rattle.authority_question.proofs.report.report_of.Reads as reads
 use Rattle.authority_question.proofs.report.report_of.Lts as lts
 use Rattle.authority_question.proofs.report.report_in.Reads as report-in-reads
-use Rattle.verdict.proofs.judge_text.Reads as judge-text-reads
+use Rattle.verdict_question.proofs.judge_text.Reads as judge-text-reads
 
 -- src/report.rt:37:9
 judge-text-requires : tie.Need-judge-text-requires
@@ -18,7 +17,9 @@ enum-told c = search needs
 
 -- src/report.rt:39:30
 report-in-requires : tie.Need-report-in-requires
-report-in-requires c κs = (accepted-judged (c .before .before .before .before .before .before .before .before .before .before .before .args .text .now) (c .before .before .before .before .before .before .before .before .before .before .before .args .work .now) (c .before .before .before .before .before .before .judge-text .last .1 .0) (c .before .before .before .before .before .before .judge-text .result) (c .before .before .before .before .before .before .before .before .before .before .before .pre .0) (c .before .before .before .before .before .before .judge-text .ensures) (c .before .before .enum-told .given .1), (c .before .before .before .before .before .before .before .before .before .before .before .pre .1))
+report-in-requires c κs =
+    let b = c .before .before .before .before .before .before in
+    (b .judge-text .ensures .accepted (c .before .before .enum-told .given .1), b .before .before .before .before .before .pre .1)
 
 -- src/report.rt:40:28
 enum-known-judged : tie.Need-enum-known-judged
@@ -34,7 +35,11 @@ same-length-2 c = search needs
 
 -- src/report.rt:33:1
 returns : tie.Need-returns
-returns c = report-accepted (c .before .before .before .before .before .before .before .before .before .before .before .before .before .before .before .before .args .text .now) (c .before .before .before .before .before .before .before .before .before .before .before .before .before .before .before .before .args .budget) (c .before .before .before .before .before .before .before .before .before .before .before .before .before .before .before .before .args .work .now) (c .before .before .before .before .before .before .before .before .before .before .before .judge-text .last .1 .0) (c .before .before .before .before .before .before .before .before .before .before .before .judge-text .result) (c .before .before .before .before .before .before .before .before .before .before .before .judge-text .ensures) (c .before .before .before .before .before .before .before .before .before .before .before .before .before .before .before .before .args .result .now) (c .before .before .before .before .before .before .before .enum-told .given .1) (c .before .before .before .before .report-in .last .0) (c .before .before .before .before .report-in .last .1 .1 .0) (c .before .before .before .before .report-in .result) (c .before .before .before .before .report-in .ensures)
+returns c =
+    let b = c .before .before .before .before in
+    let j = b .before .before .before .before .before .before .before in
+    let a = j .before .before .before .before .before in
+    report-accepted (j .judge-text .ensures) (a .args .budget) (b .before .before .before .enum-told .given .1) (b .report-in .ensures)
 
 -- src/report.rt:33:1
 same-length-3 : tie.Need-same-length-3
@@ -42,7 +47,10 @@ same-length-3 c = search needs
 
 -- src/report.rt:33:1
 returns-2 : tie.Need-returns-2
-returns-2 c = report-refused (c .before .before .before .before .before .before .before .before .before .before .args .text .now) (c .before .before .before .before .before .before .before .before .before .before .args .budget) (c .before .before .before .before .before .before .before .before .before .before .args .work .now) (c .before .before .before .before .before .judge-text .last .1 .0) (c .before .before .before .before .before .judge-text .result) (c .before .before .before .before .before .judge-text .ensures) (c .before .before .before .before .before .before .before .before .before .before .args .result .now) (c .before .judged .given .0 .0) (c .before .judged .given .0 .1 .0) (c .before .judged .given .1)
+returns-2 c =
+    let j = c .before .before .before .before .before in
+    let a = j .before .before .before .before .before in
+    report-refused (j .judge-text .ensures) (a .args .budget) (c .before .judged .given .1)
 
 pub report-of-spec : {M : Type 1} → statement M
 report-of-spec =

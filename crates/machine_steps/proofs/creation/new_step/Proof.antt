@@ -2,7 +2,7 @@ use Rattle.machine_steps.proofs.NewLaws.{form-in}
 use Prim.Native.Nat.{ℕ}
 use mathlib.Core.Path.{refl, ap, _∙_}
 use lib.ListN.{set}
-use Rattle.machine_state.specs.Held.{slotAddress}
+use Rattle.table.specs.Layout.{slotAddress}
 use Rattle.machine_steps.proofs.NewLaws.{keeps, starts, fills, new-took}
 use borrow.Author.Needs.{needs}
 use Rattle.machine_steps.proofs.creation.new_step.Statement.{statement}
@@ -28,7 +28,7 @@ wide-requires c κs = search needs
 
 -- src/creation.rt:78:9
 keeps-of-requires : tie.Need-keeps-of-requires
-keeps-of-requires c κs = ((c .before .before .before .before .pre .0) .running .whole, form-in (c .before .before .before .before .args .work .now) (c .before .before .before .before .args .top) (c .before .before .before .before .args .tally) (c .before .before .before .before .args .form) (c .before .before .before .before .pre .0) (c .before .before .before .before .pre .1) (c .wide .result) (c .wide .ensures))
+keeps-of-requires c κs = ((c .before .before .before .before .pre .0) .running .accepted .whole, form-in (c .before .before .before .before .args .work .now) (c .before .before .before .before .args .top) (c .before .before .before .before .args .tally) (c .before .before .before .before .args .form) (c .before .before .before .before .pre .0) (c .before .before .before .before .pre .1) (c .wide .result) (c .wide .ensures))
 
 -- src/creation.rt:79:5
 put-form-requires : tie.Need-put-form-requires

@@ -20,7 +20,7 @@ use Rattle.machine_state.proofs.save.Reads as save-reads
 use Rattle.machine_state.proofs.slot.Reads as slot-reads
 use Rattle.machine_steps.proofs.frame_of.Reads as frame-of-reads
 use Rattle.machine_steps.proofs.frames.enter.Reads as enter-reads
-use Rattle.member_places.proofs.place.Reads as place-reads
+use Rattle.machine_places.proofs.place.Reads as place-reads
 use Rattle.table.proofs.forms.body_count.Reads as body-count-reads
 use Rattle.table.proofs.forms.body_start.Reads as body-start-reads
 use Rattle.table.proofs.forms.keeps_of.Reads as keeps-of-reads
@@ -64,7 +64,7 @@ add-end c = omega (arith, body-ends (c .before .before .before .before .before .
 
 -- src/frames.rt:73:9
 keeps-of-requires : tie.Need-keeps-of-requires
-keeps-of-requires c κs = ((c .before .before .before .before .before .before .before .before .before .before .before .before .before .before .before .before .pre .0) .running .whole, form-in (c .before .before .before .before .before .before .before .before .before .before .before .before .before .before .before .before .args .work .now) (c .before .before .before .before .before .before .before .before .before .before .before .before .before .before .before .before .args .top) (c .before .before .before .before .before .before .before .before .before .before .before .before .before .before .before .before .args .tally) (c .before .before .before .before .before .before .before .before .before .before .before .before .before .before .before .before .args .v) (c .before .before .before .before .before .before .before .before .before .before .before .before .before .before .before .before .args .n) (c .before .before .before .before .before .before .before .before .before .before .before .before .before .before .before .before .args .a) (c .before .before .before .before .before .before .before .before .before .before .before .before .before .before .before .before .pre .0) (c .before .before .before .before .before .before .before .before .before .before .before .before .before .before .frame-of .result) (c .before .before .before .before .before .before .before .before .before .before .before .before .before .before .frame-of .ensures) (c .before .before .before .before .before .before .before .before .before .before .before .before .slot .result) (c .before .before .before .before .before .before .before .before .before .before .before .before .slot .ensures) (c .before .before .before .before .before .before .before .form-of .result) (c .before .before .before .before .before .before .before .form-of .ensures ∙ ap (λ (y : ℕ). cell (c .before .before .before .before .before .before .before .before .before .before .before .before .before .before .before .before .args .work .now) (objectAddress y)) (c .before .before .before .before .before .before .before .before .wide .ensures)))
+keeps-of-requires c κs = ((c .before .before .before .before .before .before .before .before .before .before .before .before .before .before .before .before .pre .0) .running .accepted .whole, form-in (c .before .before .before .before .before .before .before .before .before .before .before .before .before .before .before .before .args .work .now) (c .before .before .before .before .before .before .before .before .before .before .before .before .before .before .before .before .args .top) (c .before .before .before .before .before .before .before .before .before .before .before .before .before .before .before .before .args .tally) (c .before .before .before .before .before .before .before .before .before .before .before .before .before .before .before .before .args .v) (c .before .before .before .before .before .before .before .before .before .before .before .before .before .before .before .before .args .n) (c .before .before .before .before .before .before .before .before .before .before .before .before .before .before .before .before .args .a) (c .before .before .before .before .before .before .before .before .before .before .before .before .before .before .before .before .pre .0) (c .before .before .before .before .before .before .before .before .before .before .before .before .before .before .frame-of .result) (c .before .before .before .before .before .before .before .before .before .before .before .before .before .before .frame-of .ensures) (c .before .before .before .before .before .before .before .before .before .before .before .before .slot .result) (c .before .before .before .before .before .before .before .before .before .before .before .before .slot .ensures) (c .before .before .before .before .before .before .before .form-of .result) (c .before .before .before .before .before .before .before .form-of .ensures ∙ ap (λ (y : ℕ). cell (c .before .before .before .before .before .before .before .before .before .before .before .before .before .before .before .before .args .work .now) (objectAddress y)) (c .before .before .before .before .before .before .before .before .wide .ensures)))
 
 -- src/frames.rt:80:19
 add-enter : tie.Need-add-enter

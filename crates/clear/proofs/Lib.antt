@@ -1,2 +1,0 @@
-pub mod ClearLaws
-pub mod AnswerLaws

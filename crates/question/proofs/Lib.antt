@@ -1,0 +1,2 @@
+pub mod ClearLaws
+pub mod AskedLaws

@@ -1,0 +1,113 @@
+-- The verdict on a text: a law for each exit. Assumes nothing.
+use Prim.Native.Nat.{ℕ, _≤_, _<_}
+use native.Mathlib.Omega.{arith}
+use mathlib.Core.Path.{_≡_, refl, sym, ap, _∙_, subst}
+use mathlib.Core.Bool.{Bool, cond}
+use mathlib.Core.List.{List}
+use lib.ListN.{length}
+use borrow.Author.Tests.{le-leb}
+use Rattle.sheet_rules.specs.declared.Reason.{Reason}
+use Rattle.sheet_rules.specs.declared.Reason.the-variants.{BufferTooShort}
+use Rattle.sheet_rules.specs.declared.Verdict.{Verdict}
+use Rattle.sheet_rules.specs.Reading.{readable, unreadable, meaning}
+use Rattle.sheet_rules.specs.WellFormed.{WellFormed}
+use Rattle.type_rules.specs.Fit.{fits}
+use Rattle.type_rules.specs.Typing.{lineFaults, firstFormLine, firstFault, typing, verdictOn, verdict}
+use Rattle.type_rules.proofs.AgreeLaws.{faults-agree}
+use Rattle.table.specs.Layout.{rowCountAt, workSize}
+use Rattle.table.specs.View.{cell, sheetIn}
+use Rattle.table.specs.Only.{Only}
+use Rattle.table.specs.Whole.{Whole}
+use Rattle.table.proofs.ViewLaws.{SameTable, only-trans, only-widen}
+use Rattle.table.proofs.PoolLaws.{placed-same}
+use Rattle.table.proofs.RowLaws.{rows-length}
+use Rattle.accepted.proofs.AcceptedLaws.{accepted-text}
+use Rattle.reader.specs.Reads.{verdictMeans, SheetRead}
+use Rattle.reader.proofs.MainLaws.{not-accepted}
+use Rattle.reader.proofs.SheetLaws.{read-means, read-wellFormed}
+use Rattle.fit.specs.Told.{tells, Comparable, FitFilled}
+use Rattle.fit.proofs.SheetLaws.{sheet-comparable, filled-sheet, sheet-tells}
+use Rattle.code_typing.proofs.CodeLaws.{slots-sheet}
+use Rattle.typing.specs.Told.{SheetJudged}
+use Rattle.verdict_question.specs.Asked.{TextJudged}
+
+module _ (text w w₁ : List ℕ) (v : Verdict) (size : workSize ≤ length w) (s : SheetRead text w w₁ v) where
+  read-only : Only 0 workSize w w₁
+  read-only = only-widen (omega arith) (omega arith) (s .only)
+
+  -- a text that is refused at reading
+  pub text-refused : (q : Reason) (l : ℕ) → v ≡ Verdict.Refused q l → TextJudged text w w₁ v
+  unfolding verdict
+  text-refused q l e =
+      record {
+        answered =
+            record {
+              same =
+                  e
+                  ∙ ap (verdictOn typing)
+                  (ap (λ (x : Verdict). verdictMeans x (sheetIn w₁)) (sym e) ∙ s .told
+                  ∙ ap (λ (x : Bool). cond x (meaning text) (unreadable BufferTooShort 0)) (le-leb workSize (length w) size));
+              written = refl;
+              only = read-only;
+            };
+        sheet = not-accepted q l v e;
+        accepted = not-accepted q l v e;
+      }
+
+  module _ (e : v ≡ Verdict.Accepted) where
+    accepted : SheetRead text w w₁ Verdict.Accepted
+    accepted = subst (SheetRead text w w₁) e s
+
+    means : meaning text ≡ readable (sheetIn w₁)
+    means = read-means text w w₁ size accepted
+
+    well : WellFormed (sheetIn w₁)
+    well = read-wellFormed text w w₁ size accepted
+
+    size₁ : workSize ≤ length w₁
+    size₁ = omega (arith, s .only .size)
+
+    pub fill-comparable : (rows : ℕ) → rows ≡ cell w₁ rowCountAt → Comparable rows w₁
+    fill-comparable rows n = subst (λ (k : ℕ). Comparable k w₁) (sym n) (sheet-comparable w₁ size₁ well)
+
+    -- with the fit table filled
+    module _ (rows : ℕ) (rows-are : rows ≡ cell w₁ rowCountAt) (w₂ : List ℕ) (f : FitFilled rows w₁ w₂) where
+      same-sheet : sheetIn w₂ ≡ sheetIn w₁
+      same-sheet = filled-sheet rows w₁ w₂ f
+
+      pub filled-whole : Whole w₂
+      filled-whole = record { size = omega (arith, f .only .size, size₁); sheet = subst WellFormed (sym same-sheet) well }
+
+      agree : (a b : ℕ) → a < length ((sheetIn w₁) .rows) → b < length ((sheetIn w₁) .rows) → tells w₂ a b ≡ fits ((sheetIn w₁) .rows) a b
+      agree a b h k =
+          sheet-tells w₁ w₂ (subst (λ (n : ℕ). FitFilled n w₁ w₂) rows-are f) a b (omega (arith, rows-length w₁)) (omega (arith, rows-length w₁))
+
+      faults-are : lineFaults (tells w₂) (sheetIn w₂) ≡ lineFaults (fits ((sheetIn w₁) .rows)) (sheetIn w₁)
+      faults-are = ap (lineFaults (tells w₂)) same-sheet ∙ faults-agree (sheetIn w₁) well (tells w₂) (fits ((sheetIn w₁) .rows)) agree
+
+      rule : firstFault (firstFormLine (sheetIn w₂)) (lineFaults (tells w₂) (sheetIn w₂)) ≡ verdict text
+      unfolding verdict typing
+      rule =
+          (λ x. firstFault (firstFormLine (same-sheet x)) (faults-are x))
+          ∙ sym (ap (verdictOn typing) means)
+
+      pub text-judged : (w′ : List ℕ) (r : Verdict) → SheetJudged w₂ w′ r → TextJudged text w w′ r
+      text-judged w′ r k =
+          record {
+            answered =
+                record {
+                  same = k .told ∙ rule;
+                  written = refl;
+                  only =
+                      only-trans (only-trans read-only (only-widen (omega arith) (omega arith) (f .only)))
+                      (only-widen (omega arith) (omega arith) (k .only));
+                };
+            sheet = λ c. read;
+            accepted = λ c. accepted-text text w′ (omega (arith, k .only .size, f .only .size, size₁)) read (sym (k .told ∙ rule) ∙ c) (placed-same w₁ w′ table-same (s .placed e));
+          }
+        where
+          read : meaning text ≡ readable (sheetIn w′)
+          read = means ∙ sym (ap readable (slots-sheet w₂ w′ (k .only) ∙ same-sheet))
+
+          table-same : SameTable w₁ w′
+          table-same i h = k .only .below i (omega arith) ∙ f .only .below i h
