@@ -15,7 +15,7 @@ use Rattle.lists.proofs.Tests.{clash}
 use Rattle.sheet_rules.specs.declared.Reason.{Reason}
 use Rattle.sheet_rules.specs.Sheet.{Instr, copy, Sheet}
 use Rattle.sheet_rules.specs.WellFormed.{WellFormed}
-use Rattle.type_rules.specs.Typing.{Fault, Own, firstOf, instrFault, resultFault, slotRow, slotRows, instrFaults}
+use Rattle.type_rules.specs.Typing.{Fault, Own, firstOf, instrFault, resultFault, slotRow, slotRows, codeFaults}
 use Rattle.type_rules.proofs.TypingLaws.{result-row}
 use Rattle.table.specs.Layout.{fitAddress, slotRowAddress, workSize}
 use Rattle.table.specs.View.{cell, instrIn, instrsIn, sheetIn}
@@ -27,12 +27,12 @@ use Rattle.instr_typing.specs.declared.InstrJudged.{InstrJudged}
 use Rattle.instr_typing.specs.Told.{judgedOf}
 use Rattle.code_typing.specs.declared.Walked.{Walked}
 use Rattle.code_typing.specs.Walk.{walk}
-use Rattle.code_typing.specs.Told.{lastFault, lineJudged, stoppedAt, OnlySlots, CodeJudged, codeFaults, codeSlotRows}
+use Rattle.code_typing.specs.Told.{lastFault, lineJudged, stoppedAt, OnlySlots, CodeJudged, instrJudgeIn, codeFaultsIn, codeSlotRows}
 use Rattle.code_typing.proofs.WalkLaws.{walk-none, walk-good, walk-bad}
 
 -- what a change of slots' rows leaves as it was
 
-module _ (w w′ : List ℕ) (o : OnlySlots w w′) where
+module _ {w w′ : List ℕ} (o : OnlySlots w w′) where
   table-same : SameTable w w′
   table-same = only→same (slotRowAddress 0) (slotRowAddress 63 + 1) w w′ (omega arith) o
 
@@ -66,7 +66,29 @@ result-last fit (some r) a is true h n = ap (resultFault fit (some r) a) (sym (h
 result-last fit (some r) a [] false h n = absurd (n refl refl)
 result-last fit (some r) a (i ∷ is) false h n = refl
 
-module _ (own : Own) (wanted : Option ℕ) (filled start count first : ℕ) (w₀ : List ℕ) where
+-- where the loop stands
+pub record CodeGoing (own : Own) (wanted : Option ℕ) (filled start count first : ℕ) (w₀ w : List ℕ) (j line : ℕ) : Type 0 where
+  pub within : j ≤ count
+  pub only : OnlySlots w₀ w
+  pub lined : line ≡ first + j
+  pub same : walk line (codeFaults (instrJudgeIn w₀ own wanted) (sheetIn w₀) own (slotRowsIn w (filled + j)) (drop j (instrsIn w₀ start count)))
+      ≡ walk first (codeFaultsIn w₀ own wanted filled start count)
+  pub slots : slotRows (sheetIn w₀) own (slotRowsIn w (filled + j)) (drop j (instrsIn w₀ start count)) ≡ codeSlotRows w₀ own filled start count
+
+pub code-start : {own : Own} {wanted : Option ℕ} {filled start count first : ℕ} {w₀ : List ℕ} → CodeGoing own wanted filled start count first w₀ w₀ 0 first
+code-start {own} {wanted} {filled} {start} {count} {first} {w₀} =
+    record {
+      within = omega arith;
+      only = only-refl (slotRowAddress 0) (slotRowAddress 63 + 1) w₀;
+      lined = omega arith;
+      same = ap (λ (k : ℕ). walk first (codeFaultsIn w₀ own wanted k start count)) none-more;
+      slots = ap (λ (k : ℕ). codeSlotRows w₀ own k start count) none-more;
+    }
+  where
+    none-more : filled + 0 ≡ filled
+    none-more = omega arith
+
+module _ {own : Own} {wanted : Option ℕ} {filled start count first : ℕ} {w₀ w : List ℕ} {j line : ℕ} (g : CodeGoing own wanted filled start count first w₀ w j line) where
   abbrev code : List Instr
   code = instrsIn w₀ start count
 
@@ -74,167 +96,150 @@ module _ (own : Own) (wanted : Option ℕ) (filled start count first : ℕ) (w�
   code-length = length-tab (λ k. instrIn w₀ (start + k)) count
 
   abbrev faults : List ℕ → List Instr → List Fault
-  faults rows is = instrFaults (tells w₀) (sheetIn w₀) own wanted rows is
+  faults rows is = codeFaults (instrJudgeIn w₀ own wanted) (sheetIn w₀) own rows is
 
   abbrev slotsFrom : List ℕ → List Instr → List ℕ
   slotsFrom rows is = slotRows (sheetIn w₀) own rows is
 
-  abbrev Judged : List ℕ → Walked → Type 0
-  Judged w r = CodeJudged (codeFaults w₀ own wanted filled start count) (codeSlotRows w₀ own filled start count) first w₀ w r
+  abbrev Judged : Walked → Type 0
+  Judged r = CodeJudged (codeFaultsIn w₀ own wanted filled start count) (codeSlotRows w₀ own filled start count) first w₀ w r
 
-  -- where the loop stands
-  pub record CodeGoing (w : List ℕ) (j line : ℕ) : Type 0 where
-    pub within : j ≤ count
-    pub only : OnlySlots w₀ w
-    pub lined : line ≡ first + j
-    pub same : walk line (faults (slotRowsIn w (filled + j)) (drop j code)) ≡ walk first (codeFaults w₀ own wanted filled start count)
-    pub slots : slotsFrom (slotRowsIn w (filled + j)) (drop j code) ≡ codeSlotRows w₀ own filled start count
+  none-left : count ≤ j → drop j code ≡ []
+  none-left l = let past : length code ≤ j = omega (arith, code-length) in drop-of-length-le code past
 
-  pub code-start : CodeGoing w₀ 0 first
-  code-start =
+  slots-all : count ≤ j → slotRowsIn w (filled + j) ≡ codeSlotRows w₀ own filled start count
+  unfolding slotRows
+  slots-all l = sym (ap (slotsFrom (slotRowsIn w (filled + j))) (none-left l)) ∙ g .slots
+
+  pub code-end : count ≤ j → Judged (Walked.On line)
+  unfolding codeFaults
+  code-end l =
       record {
-        within = omega arith;
-        only = only-refl (slotRowAddress 0) (slotRowAddress 63 + 1) w₀;
-        lined = omega arith;
-        same =
-            ap (λ (k : ℕ). walk first (instrFaults (tells w₀) (sheetIn w₀) own wanted (slotRowsIn w₀ k) (instrsIn w₀ start count))) none-more;
-        slots = ap (λ (k : ℕ). slotsFrom (slotRowsIn w₀ k) code) none-more;
+        lines = record {
+          told =
+              sym (walk-none line)
+              ∙ sym (ap (λ (is : List Instr). walk line (faults (slotRowsIn w (filled + j)) is)) (none-left l)) ∙ g .same;
+          only = g .only;
+        };
+        slots = λ n e. ap (slotRowsIn w) (sym (ap length (slots-all l)) ∙ length-tab (λ v. cell w (slotRowAddress v)) (filled + j)) ∙ slots-all l;
       }
-    where
-      none-more : filled + 0 ≡ filled
-      none-more = omega arith
 
-  module _ (w : List ℕ) (j line : ℕ) (g : CodeGoing w j line) where
-    none-left : count ≤ j → drop j code ≡ []
-    none-left l = let past : length code ≤ j = omega (arith, code-length) in drop-of-length-le code past
+  -- the next line; the code has the place of the first instruction as a number of its own
+  module _ (l : j < count) {place : ℕ} (place-is : place ≡ start) {judged : InstrJudged}
+      (told : judged ≡ lineJudged w own wanted (filled + j) (instrIn w (place + j)) (eqb (j + 1) count)) where
+    rows : List ℕ
+    rows = slotRowsIn w (filled + j)
 
-    slots-all : count ≤ j → slotRowsIn w (filled + j) ≡ codeSlotRows w₀ own filled start count
-    unfolding slotRows
-    slots-all l = sym (ap (slotsFrom (slotRowsIn w (filled + j))) (none-left l)) ∙ g .slots
+    instr : Instr
+    instr = instrIn w₀ (start + j)
 
-    pub code-end : count ≤ j → Judged w (Walked.On line)
-    unfolding instrFaults
-    code-end l =
+    row : ℕ
+    row = slotRow (sheetIn w₀) own rows instr
+
+    rest : List Instr
+    rest = drop (suc j) code
+
+    fault : Fault
+    fault = firstOf (instrFault (tells w₀) (sheetIn w₀) own rows instr) (resultFault (tells w₀) wanted row rest)
+
+    next-here : drop j code ≡ instr ∷ rest
+    unfolding instr rest
+    next-here =
+        drop-cons code j (copy 0) (omega (arith, code-length))
+        ∙ ap (λ (i : Instr). i ∷ drop (suc j) code) (getD-tab (λ k. instrIn w₀ (start + k)) count j (copy 0) l)
+
+    abbrev last : Bool
+    last = eqb (j + 1) count
+
+    ends : last ≡ true → rest ≡ []
+    unfolding rest
+    ends e =
+        let k : j + 1 ≡ count = eqb-true (j + 1) count e in
+        let p : length code ≤ suc j = omega (arith, code-length) in
+        drop-of-length-le code p
+
+    goes-on : last ≡ false → rest ≡ [] → ⊥
+    unfolding rest
+    goes-on e n =
+        let k : j + 1 ≡ count → ⊥ = eqb-false (j + 1) count e in
+        let h : suc j < length code = omega (arith, code-length) in
+        clash (cc-empty (sym n ∙ drop-cons code (suc j) (copy 0) h))
+      where
+        cc-empty : {x : Instr} {xs : List Instr} → [] ≡ x ∷ xs → _≡_ {A = ℕ} 0 1
+        cc-empty e = cc
+
+    -- the rule's judgement of the line, over the buffer at the start
+    judgedWith : (ℕ → ℕ → Bool) → Sheet → Instr → InstrJudged
+    judgedWith fit s i = judgedOf (firstOf (instrFault fit s own rows i) (lastFault fit wanted (slotRow s own rows i) last)) (slotRow s own rows i)
+
+    judged-rule : judged ≡ judgedOf fault row
+    unfolding rows instr row fault judgedWith
+    judged-rule =
+        told
+        ∙ ap (λ (p : ℕ). lineJudged w own wanted (filled + j) (instrIn w (p + j)) last) place-is
+        ∙ (λ x. judgedWith (slots-tells (g .only) x) (slots-sheet (g .only) x) (slots-instr (g .only) (start + j) x))
+        ∙ ap (λ (f : Fault). judgedOf (firstOf (instrFault (tells w₀) (sheetIn w₀) own rows instr) f) row) (result-last (tells w₀) wanted row rest last ends goes-on)
+
+    walk-here : walk line (fault ∷ faults (rows ++ (row ∷ [])) rest) ≡ walk first (codeFaultsIn w₀ own wanted filled start count)
+    unfolding rows instr row fault rest codeFaults
+    walk-here =
+        ap (λ (f : Fault). walk line (firstOf (instrFault (tells w₀) (sheetIn w₀) own rows instr) f ∷ faults (rows ++ (row ∷ [])) rest))
+        (sym (result-row (tells w₀) (sheetIn w₀) own wanted rows instr rest))
+        ∙ sym (ap (λ (is : List Instr). walk line (faults (slotRowsIn w (filled + j)) is)) next-here) ∙ g .same
+
+    slots-here : slotsFrom (rows ++ (row ∷ [])) rest ≡ codeSlotRows w₀ own filled start count
+    unfolding rows instr row rest slotRows
+    slots-here = sym (ap (slotsFrom (slotRowsIn w (filled + j))) next-here) ∙ g .slots
+
+    pub code-stop : {q : Reason} → judged ≡ InstrJudged.Refused q → {v : Walked} → v ≡ stoppedAt judged line → Judged v
+    code-stop {q} e {v} ev =
         record {
           lines = record {
             told =
-                sym (walk-none line)
-                ∙ sym (ap (λ (is : List Instr). walk line (faults (slotRowsIn w (filled + j)) is)) (none-left l)) ∙ g .same;
+                stops ∙ walk-bad line q (faults (rows ++ (row ∷ [])) rest)
+                ∙ ap (λ (f : Fault). walk line (f ∷ faults (rows ++ (row ∷ [])) rest)) (go fault (sym judged-rule ∙ e)) ∙ walk-here;
             only = g .only;
           };
-          slots = λ n e. ap (slotRowsIn w) (sym (ap length (slots-all l)) ∙ length-tab (λ v. cell w (slotRowAddress v)) (filled + j)) ∙ slots-all l;
+          slots = λ n on. no-way n (sym stops ∙ on);
         }
+      where
+        stops : v ≡ Walked.Stopped q line
+        stops = ev ∙ ap (λ (x : InstrJudged). stoppedAt x line) e
 
-    module _ (l : j < count) (judged : InstrJudged) (last : Bool) (last-is : last ≡ eqb (j + 1) count)
-        (told : judged ≡ lineJudged w own wanted (filled + j) (instrIn w (start + j)) last) where
-      rows : List ℕ
-      rows = slotRowsIn w (filled + j)
+        no-way : (n : ℕ) {A : Type 0} → Walked.Stopped q line ≡ Walked.On n → A
+        no-way n c = clash (cc)
 
-      instr : Instr
-      instr = instrIn w₀ (start + j)
+        go : (f : Fault) → judgedOf f row ≡ InstrJudged.Refused q → some q ≡ f
+        go none e = clash (cc)
+        go (some r) e = cc
 
-      row : ℕ
-      row = slotRow (sheetIn w₀) own rows instr
+    pub code-next : filled + count ≤ 64 → workSize ≤ length w₀ → {r : ℕ} → judged ≡ InstrJudged.Good r → {w′ : List ℕ} → w′ ≡ set w (slotRowAddress (filled + j)) r
+        → CodeGoing own wanted filled start count first w₀ w′ (j + 1) (line + 1)
+    unfolding rest rows
+    code-next few size {r} e {w′} s =
+        record {
+          within = omega arith;
+          only =
+              only-trans (g .only)
+              (subst (OnlySlots w) (sym s) (only-set (slotRowAddress 0) (slotRowAddress 63 + 1) w (slotRowAddress (filled + j)) r (omega arith) (omega arith)));
+          lined = omega (arith, g .lined);
+          same =
+              ap₂ (λ (xs : List ℕ) (k : ℕ). walk (line + 1) (faults xs (drop k code))) rows-then (add-one j)
+              ∙ walk-good line (faults (rows ++ (row ∷ [])) rest)
+              ∙ ap (λ (f : Fault). walk line (f ∷ faults (rows ++ (row ∷ [])) rest)) (no-fault fault (sym judged-rule ∙ e)) ∙ walk-here;
+          slots = ap₂ (λ (xs : List ℕ) (k : ℕ). slotsFrom xs (drop k code)) rows-then (add-one j) ∙ slots-here;
+        }
+      where
+        no-fault : (f : Fault) → judgedOf f row ≡ InstrJudged.Good r → none ≡ f
+        no-fault none e = refl
+        no-fault (some q) e = clash (cc)
 
-      rest : List Instr
-      rest = drop (suc j) code
+        row-is : (f : Fault) → judgedOf f row ≡ InstrJudged.Good r → r ≡ row
+        row-is none e = cc
+        row-is (some q) e = clash (cc)
 
-      fault : Fault
-      fault = firstOf (instrFault (tells w₀) (sheetIn w₀) own rows instr) (resultFault (tells w₀) wanted row rest)
-
-      next-here : drop j code ≡ instr ∷ rest
-      unfolding instr rest
-      next-here =
-          drop-cons code j (copy 0) (omega (arith, code-length))
-          ∙ ap (λ (i : Instr). i ∷ drop (suc j) code) (getD-tab (λ k. instrIn w₀ (start + k)) count j (copy 0) l)
-
-      ends : last ≡ true → rest ≡ []
-      unfolding rest
-      ends e =
-          let k : j + 1 ≡ count = eqb-true (j + 1) count (sym last-is ∙ e) in
-          let p : length code ≤ suc j = omega (arith, code-length) in
-          drop-of-length-le code p
-
-      goes-on : last ≡ false → rest ≡ [] → ⊥
-      unfolding rest
-      goes-on e n =
-          let k : j + 1 ≡ count → ⊥ = eqb-false (j + 1) count (sym last-is ∙ e) in
-          let h : suc j < length code = omega (arith, code-length) in
-          clash (cc-empty (sym n ∙ drop-cons code (suc j) (copy 0) h))
-        where
-          cc-empty : {x : Instr} {xs : List Instr} → [] ≡ x ∷ xs → _≡_ {A = ℕ} 0 1
-          cc-empty e = cc
-
-      -- the rule's judgement of the line, over the buffer at the start
-      judgedWith : (ℕ → ℕ → Bool) → Sheet → Instr → InstrJudged
-      judgedWith fit s i = judgedOf (firstOf (instrFault fit s own rows i) (lastFault fit wanted (slotRow s own rows i) last)) (slotRow s own rows i)
-
-      judged-rule : judged ≡ judgedOf fault row
-      unfolding rows instr row fault judgedWith
-      judged-rule =
-          told
-          ∙ (λ x. judgedWith (slots-tells w₀ w (g .only) x) (slots-sheet w₀ w (g .only) x) (slots-instr w₀ w (g .only) (start + j) x))
-          ∙ ap (λ (f : Fault). judgedOf (firstOf (instrFault (tells w₀) (sheetIn w₀) own rows instr) f) row) (result-last (tells w₀) wanted row rest last ends goes-on)
-
-      walk-here : walk line (fault ∷ faults (rows ++ (row ∷ [])) rest) ≡ walk first (codeFaults w₀ own wanted filled start count)
-      unfolding rows instr row fault rest instrFaults
-      walk-here =
-          ap (λ (f : Fault). walk line (firstOf (instrFault (tells w₀) (sheetIn w₀) own rows instr) f ∷ faults (rows ++ (row ∷ [])) rest))
-          (sym (result-row (tells w₀) (sheetIn w₀) own wanted rows instr rest))
-          ∙ sym (ap (λ (is : List Instr). walk line (faults (slotRowsIn w (filled + j)) is)) next-here) ∙ g .same
-
-      slots-here : slotsFrom (rows ++ (row ∷ [])) rest ≡ codeSlotRows w₀ own filled start count
-      unfolding rows instr row rest slotRows
-      slots-here = sym (ap (slotsFrom (slotRowsIn w (filled + j))) next-here) ∙ g .slots
-
-      pub code-stop : (q : Reason) → judged ≡ InstrJudged.Refused q → (v : Walked) → v ≡ stoppedAt judged line → Judged w v
-      code-stop q e v ev =
-          record {
-            lines = record {
-              told =
-                  stops ∙ walk-bad line q (faults (rows ++ (row ∷ [])) rest)
-                  ∙ ap (λ (f : Fault). walk line (f ∷ faults (rows ++ (row ∷ [])) rest)) (go fault (sym judged-rule ∙ e)) ∙ walk-here;
-              only = g .only;
-            };
-            slots = λ n on. no-way n (sym stops ∙ on);
-          }
-        where
-          stops : v ≡ Walked.Stopped q line
-          stops = ev ∙ ap (λ (x : InstrJudged). stoppedAt x line) e
-
-          no-way : (n : ℕ) {A : Type 0} → Walked.Stopped q line ≡ Walked.On n → A
-          no-way n c = clash (cc)
-
-          go : (f : Fault) → judgedOf f row ≡ InstrJudged.Refused q → some q ≡ f
-          go none e = clash (cc)
-          go (some r) e = cc
-
-      pub code-next : filled + count ≤ 64 → workSize ≤ length w₀ → (r : ℕ) → judged ≡ InstrJudged.Good r → (w′ : List ℕ) → w′ ≡ set w (slotRowAddress (filled + j)) r → CodeGoing w′ (j + 1) (line + 1)
-      unfolding rest rows
-      code-next few size r e w′ s =
-          record {
-            within = omega arith;
-            only =
-                only-trans (g .only)
-                (subst (OnlySlots w) (sym s) (only-set (slotRowAddress 0) (slotRowAddress 63 + 1) w (slotRowAddress (filled + j)) r (omega arith) (omega arith)));
-            lined = omega (arith, g .lined);
-            same =
-                ap₂ (λ (xs : List ℕ) (k : ℕ). walk (line + 1) (faults xs (drop k code))) rows-then (add-one j)
-                ∙ walk-good line (faults (rows ++ (row ∷ [])) rest)
-                ∙ ap (λ (f : Fault). walk line (f ∷ faults (rows ++ (row ∷ [])) rest)) (no-fault fault (sym judged-rule ∙ e)) ∙ walk-here;
-            slots = ap₂ (λ (xs : List ℕ) (k : ℕ). slotsFrom xs (drop k code)) rows-then (add-one j) ∙ slots-here;
-          }
-        where
-          no-fault : (f : Fault) → judgedOf f row ≡ InstrJudged.Good r → none ≡ f
-          no-fault none e = refl
-          no-fault (some q) e = clash (cc)
-
-          row-is : (f : Fault) → judgedOf f row ≡ InstrJudged.Good r → r ≡ row
-          row-is none e = cc
-          row-is (some q) e = clash (cc)
-
-          rows-then : slotRowsIn w′ (filled + (j + 1)) ≡ rows ++ (row ∷ [])
-          rows-then =
-              (let m : filled + (j + 1) ≡ filled + j + 1 = omega arith in ap (slotRowsIn w′) m)
-              ∙ slots-more w w′ (filled + j) r (omega arith) (omega (arith, g .only .size)) s
-              ∙ ap (λ (x : ℕ). slotRowsIn w (filled + j) ++ (x ∷ [])) (row-is fault (sym judged-rule ∙ e))
+        rows-then : slotRowsIn w′ (filled + (j + 1)) ≡ rows ++ (row ∷ [])
+        rows-then =
+            (let m : filled + (j + 1) ≡ filled + j + 1 = omega arith in ap (slotRowsIn w′) m)
+            ∙ slots-more w w′ (filled + j) r (omega arith) (omega (arith, g .only .size)) s
+            ∙ ap (λ (x : ℕ). slotRowsIn w (filled + j) ++ (x ∷ [])) (row-is fault (sym judged-rule ∙ e))

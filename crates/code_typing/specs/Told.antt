@@ -1,17 +1,16 @@
 -- What judging a body's lines ensures. Stands on the typing rules, the table's view and the judgement of one instruction.
-use Prim.Native.Nat.{ℕ, _+_, _≤_}
+use Prim.Native.Nat.{ℕ, _+_}
 use mathlib.Core.Path.{_≡_}
 use mathlib.Core.Bool.{Bool, true, false}
 use mathlib.Core.List.{List, []}
 use mathlib.Core.Option.{Option, none}
 use lib.ListN.{length}
 use Rattle.sheet_rules.specs.Sheet.{Instr}
-use Rattle.type_rules.specs.Typing.{Fault, firstOf, instrFault, resultFault, slotRow, slotRows, Own, instrFaults}
+use Rattle.type_rules.specs.Typing.{Fault, firstOf, instrFault, resultFault, slotRow, slotRows, Own, InstrJudge, LineJudge, codeFaults, typedInstr, typedLines}
 use Rattle.table.specs.Layout.{slotRowAddress}
 use Rattle.table.specs.Only.{Only}
 use Rattle.table.specs.Told.{slotRowsIn}
 use Rattle.table.specs.View.{instrsIn, sheetIn}
-use Rattle.table.specs.Whole.{Whole}
 use Rattle.fit.specs.Told.{tells}
 use Rattle.instr_typing.specs.declared.InstrJudged.{InstrJudged}
 use Rattle.instr_typing.specs.Told.{judgedOf}
@@ -50,10 +49,17 @@ pub record CodeJudged (faults : List Fault) (rows : List ℕ) (line : ℕ) (w w�
   pub lines : LinesJudged faults line w w′ r
   pub slots : (n : ℕ) → r ≡ Walked.On n → slotRowsIn w′ (length rows) ≡ rows
 
+-- typing's judge of lines, and of the instructions of a body or of main, by the table's word on fit
+abbrev pub judgeIn : List ℕ → LineJudge
+judgeIn w = typedLines (tells w) (sheetIn w)
+
+abbrev pub instrJudgeIn : List ℕ → Own → Option ℕ → InstrJudge
+instrJudgeIn w own wanted = typedInstr (tells w) (sheetIn w) own wanted
+
 -- the lines of a body or of main, after `filled` slots, and the rows of all its slots
-abbrev pub codeFaults : List ℕ → Own → Option ℕ → (filled start count : ℕ) → List Fault
-codeFaults w own wanted filled start count =
-    instrFaults (tells w) (sheetIn w) own wanted (slotRowsIn w filled) (instrsIn w start count)
+abbrev pub codeFaultsIn : List ℕ → Own → Option ℕ → (filled start count : ℕ) → List Fault
+codeFaultsIn w own wanted filled start count =
+    codeFaults (instrJudgeIn w own wanted) (sheetIn w) own (slotRowsIn w filled) (instrsIn w start count)
 
 abbrev pub codeSlotRows : List ℕ → Own → (filled start count : ℕ) → List ℕ
 codeSlotRows w own filled start count = slotRows (sheetIn w) own (slotRowsIn w filled) (instrsIn w start count)

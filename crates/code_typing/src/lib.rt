@@ -6,7 +6,7 @@ ghost use Rattle.table.specs.View.{instrIn};
 ghost use Rattle.table.specs.Whole.{Whole};
 ghost use Rattle.instr_typing.specs.Told.{rowFound};
 ghost use Rattle.code_typing.specs.Walk.{lineLimit};
-ghost use Rattle.code_typing.specs.Told.{lineJudged, stoppedAt, CodeJudged, codeFaults, codeSlotRows};
+ghost use Rattle.code_typing.specs.Told.{lineJudged, stoppedAt, CodeJudged, codeFaultsIn, codeSlotRows};
 use instr_typing::FoundRow;
 use instr_typing::InstrJudged;
 use sheet_rules::Reason;
@@ -71,7 +71,7 @@ pub fn judge_code(
     first: u32,
 ) -> Walked
     requires { ⌜ Whole (now work) × (filled + count ≤ 64) × (first + count ≤ lineLimit) ⌝ }
-    ensures { λ r. ⌜ CodeJudged (codeFaults (now (work .entry)) (rowFound own) (rowFound wanted) filled start count) (codeSlotRows (now (work .entry)) (rowFound own) filled start count) first (now (work .entry)) (now (work .exit)) r ⌝ }
+    ensures { λ r. ⌜ CodeJudged (codeFaultsIn (now (work .entry)) (rowFound own) (rowFound wanted) filled start count) (codeSlotRows (now (work .entry)) (rowFound own) filled start count) first (now (work .entry)) (now (work .exit)) r ⌝ }
 {
     let mut j = 0;
     let mut line = first;

@@ -3,135 +3,108 @@ use Prim.Native.Nat.{ℕ, suc, _+_, _≤_, _<_}
 use native.Mathlib.Omega.{arith}
 use native.Mathlib.Decide.{decLe}
 use native.Mathlib.Numerals.{add-one}
-use mathlib.Core.Path.{_≡_, refl, sym, ap, ap₂, _∙_, subst}
-use mathlib.Core.List.{List, []}
-use lib.ListN.{length, getD, drop}
+use mathlib.Core.Path.{_≡_, sym, ap, ap₂, _∙_, subst}
+use mathlib.Core.List.{List}
+use lib.ListN.{length, getD}
 use Rattle.lists.specs.Tab.{tab}
 use Rattle.lists.proofs.TabLaws.{tab-suc, tab-ext, length-tab}
 use Rattle.sheet_rules.specs.declared.Member.{Member}
 use Rattle.sheet_rules.specs.declared.Reason.{Reason}
-use Rattle.sheet_rules.specs.Lines.{linesOf}
 use Rattle.sheet_rules.specs.Sheet.{Part, noMember, sizeOfPart, sizeOfParts}
 use Rattle.sheet_rules.specs.Reader.{Reader}
 use Rattle.sheet_rules.specs.FormLines.{readPart}
 use Rattle.sheet_rules.proofs.SizeLaws.{parts-snoc}
-use Rattle.table.specs.Layout.{rowAddress, partAddress, tableEnd}
+use Rattle.table.specs.Layout.{partAddress}
 use Rattle.table.specs.View.{memberIn, rowIn, partIn, partsIn}
 use Rattle.table.specs.Pool.{OnlyFrom, partEnd, PartsEnd}
 use Rattle.table.proofs.ViewLaws.{member-same, only-widen}
 use Rattle.table.proofs.RowLaws.{members-getD}
 use Rattle.table.proofs.PoolLaws.{from-refl, from-trans, end-kept, part-kept}
+use Rattle.line_reader.specs.declared.Cursor.{Cursor}
 use Rattle.line_reader.specs.declared.Progress.{Progress}
-use Rattle.line_reader.specs.Told.{Room}
-use Rattle.reader_loop.proofs.LoopLaws.{Going, Turn, going-start, going-next, going-stop, going-end}
-use Rattle.part_reader.specs.declared.PoolProgress.{PoolProgress}
-use Rattle.part_reader.specs.Reads.{plain, PartUsed, PartRead}
-use Rattle.part_reader.proofs.PartLaws.{not-moved, moved-used}
-use Rattle.form_reader.specs.Reads.{PartsReady, partItem, PartsUsed, PartsRead}
+use Rattle.line_reader.specs.Told.{Room, readFrom, Advanced}
+use Rattle.reader_loop.proofs.LoopLaws.{moved-on, Going, Turn, going-start, going-next, going-stop, going-end}
+use Rattle.part_reader.specs.Reads.{PartRead}
+use Rattle.part_reader.proofs.PartLaws.{not-moved, moved-same}
+use Rattle.form_reader.specs.Reads.{PartsReady, partItem, partItems, PartsRead}
 
-module _ (text : List ℕ) (f row count forms keeps start from first : ℕ) (w₀ : List ℕ) where
-  -- the rule's item, for the row's members, and what the table holds of it
-  abbrev pub item : List Part → Reader Part
-  item = partItem ((rowIn w₀ row) .members) forms keeps start
+-- where the loop stands
+pub record PartsGoing (text : List ℕ) (f count : ℕ) (item : List Part → Reader Part) (from : Cursor) (w₀ w : List ℕ) (j : ℕ) (here : Cursor) : Type 0 where
+  pub ends : PartsEnd w f j (here .used)
+  pub pool : OnlyFrom (partAddress f 0) (from .used) w₀ w
+  pub going : Going text (partItems item f (from .used)) count from w₀ w j here
 
-  abbrev pub value : List ℕ → ℕ → Part
-  value x j = partIn x f j
+pub parts-start : {text : List ℕ} {f count : ℕ} {item : List Part → Reader Part} {from : Cursor} {w : List ℕ} → Room text from → PartsGoing text f count item from w w 0 from
+unfolding tab sizeOfParts
+parts-start {f = f} {from = from} {w = w} room =
+    record {
+      ends = λ k h. absurd (omega arith);
+      pool = from-refl (partAddress f 0) (from .used) w;
+      going = going-start room (omega arith);
+    }
 
-  -- where the loop stands, with the instructions that are used there
-  pub record PartsGoing (w : List ℕ) (j used at n : ℕ) : Type 0 where
-    pub counted : used ≡ start + sizeOfParts (partsIn w f j)
-    pub few : used ≤ 1024
-    pub ends : PartsEnd w f j used
-    pub only : OnlyFrom (partAddress f 0) start w₀ w
-    pub going : Going text item value (partAddress f 0) tableEnd count from first w₀ w j at n
+-- a turn, by what the reader of a part gave
+module _ {text : List ℕ} {f row count : ℕ} (forms : ℕ) {keeps : ℕ} {from : Cursor} {w₀ w : List ℕ} {j : ℕ} {here : Cursor} (ready : PartsReady w₀ f row count keeps)
+    (g : PartsGoing text f count (partItem ((rowIn w₀ row) .members) forms keeps (from .used)) from w₀ w j here) (l : j < count)
+    {m : Member} (e : m ≡ memberIn w row j) {w′ : List ℕ} {r : Progress} (read : PartRead text f j (readPart forms keeps (here .used) m) here w w′ r) where
+  member-asked : m ≡ getD ((rowIn w₀ row) .members) (length (partsIn w f j)) noMember
+  member-asked =
+      e
+      ∙ member-same w₀ w row j (λ k lo hi. g .pool .below k (omega arith))
+      ∙ sym (members-getD w₀ row j (omega (arith, ready .counted)))
+      ∙ ap (λ (k : ℕ). getD ((rowIn w₀ row) .members) k noMember) (sym (length-tab (partIn w f) j))
 
-  pub parts-start : Room text from first → start ≤ 1024 → PartsGoing w₀ 0 start from first
-  unfolding tab sizeOfParts
-  parts-start room few =
+  parts-before : partsIn w′ f j ≡ partsIn w f j
+  parts-before =
+      tab-ext (partIn w′ f) (partIn w f) j
+      (λ k h. part-kept (partAddress f j) (here .used) w w′ (read .pool) (g .going .room .pool) f k (omega (arith, ready .few)) (g .ends k h))
+
+  parts-used : here .used + sizeOfPart (partIn w′ f j) ≡ from .used + sizeOfParts (partsIn w′ f (j + 1))
+  parts-used =
+      let a : sizeOfParts (partsIn w′ f (j + 1)) ≡ sizeOfParts (partsIn w f j) + sizeOfPart (partIn w′ f j) =
+      ap (λ (k : ℕ). sizeOfParts (partsIn w′ f k)) (add-one j) ∙ ap sizeOfParts (tab-suc (partIn w′ f) j)
+      ∙ parts-snoc (partsIn w′ f j) (partIn w′ f j) ∙ ap (λ (ps : List Part). sizeOfParts ps + sizeOfPart (partIn w′ f j)) parts-before in
+      omega (arith, g .going .pool, a)
+
+  turn : Turn text (partItems (partItem ((rowIn w₀ row) .members) forms keeps (from .used)) f (from .used)) w j here w′ r
+  turn =
       record {
-        counted = omega arith;
-        few = few;
-        ends = λ k h. absurd (omega arith);
-        only = from-refl (partAddress f 0) start w₀;
-        going = going-start text item value (partAddress f 0) tableEnd count from first w₀ room;
+        read =
+            record {
+              told = read .read .told ∙ ap₂ (λ (u : ℕ) (x : Member). readFrom text here (readPart forms keeps u x)) (g .going .pool) member-asked;
+              only = only-widen (omega arith) (omega arith) (read .read .only);
+              advanced = subst (λ (u : ℕ). Advanced text here u r) parts-used (read .read .advanced);
+            };
+        kept = parts-before;
       }
 
-  module _ (ready : PartsReady w₀ f row count keeps start) (w : List ℕ) (j used at n : ℕ) (g : PartsGoing w j used at n) (l : j < count) where
-    member-asked : (m : Member) → m ≡ memberIn w row j → m ≡ getD ((rowIn w₀ row) .members) (length (partsIn w f j)) noMember
-    member-asked m e =
-        e
-        ∙ member-same w₀ w row j (λ k lo hi. g .only .below k (omega arith))
-        ∙ sym (members-getD w₀ row j (omega (arith, ready .counted)))
-        ∙ ap (λ (k : ℕ). getD ((rowIn w₀ row) .members) k noMember) (sym (length-tab (partIn w f) j))
+  pool′ : OnlyFrom (partAddress f 0) (from .used) w₀ w′
+  pool′ = from-trans {lo′ = partAddress f j} {p′ = here .used} (omega arith) (omega (arith, g .going .pool)) (g .pool) (read .pool)
 
-    module _ (m : Member) (e : m ≡ memberIn w row j) (w′ : List ℕ) (p : PoolProgress) (r : PartRead text f j used (readPart forms keeps used m) at n w w′ p) where
-      parts-before : partsIn w′ f j ≡ partsIn w f j
-      parts-before = tab-ext (partIn w′ f) (partIn w f) j (λ k h. part-kept (partAddress f j) used w w′ (r .from) (g .few) f k (omega (arith, ready .few)) (g .ends k h))
+  pub parts-stop : {q : Reason} {n : ℕ} → r ≡ Progress.Refused q n → PartsRead text f count (partItem ((rowIn w₀ row) .members) forms keeps (from .used)) from w₀ w′ r
+  parts-stop c = record { read = going-stop (g .going) l c turn; pool = pool′; ends = λ to d. not-moved (sym c ∙ d) }
 
-      turn : Turn text item value (partAddress f 0) tableEnd count from first w₀ w j at n (g .going) w′ (plain p)
-      turn =
-          record {
-            read =
-                record {
-                  told = r .read .told ∙ ap₂ (λ (u : ℕ) (x : Member). readPart forms keeps u x (linesOf (drop at text)) n) (g .counted) (member-asked m e);
-                  only = only-widen (omega arith) (omega arith) (r .read .only);
-                  advanced = r .read .advanced;
-                };
-            kept = parts-before;
-          }
-
-      only′ : OnlyFrom (partAddress f 0) start w₀ w′
-      only′ = from-trans {lo′ = partAddress f j} {p′ = used} (omega arith) (omega (arith, g .counted)) (g .only) (r .from)
-
-      pub parts-stop : (q : Reason) (n′ : ℕ) → p ≡ PoolProgress.Refused q n′ → PartsRead text f count start item from first w₀ w′ p
-      parts-stop q n′ c =
-          record {
-            read = going-stop text item value (partAddress f 0) tableEnd count from first w₀ w j at n (g .going) l w′ (plain p) q n′ (ap plain c) turn;
-            from = only′;
-            used-then = λ a m u d. not-moved q n′ a m u (sym c ∙ d);
-          }
-
-      pub parts-next : (at′ n′ u : ℕ) → p ≡ PoolProgress.Moved at′ n′ u → PartsGoing w′ (j + 1) u at′ n′
-      parts-next at′ n′ u c =
-          record {
-            counted =
-                (let a = (used-by .counted) in
-                let b : sizeOfParts (partsIn w′ f (j + 1)) ≡ sizeOfParts (partsIn w f j) + sizeOfPart (partIn w′ f j) =
-                ap (λ (k : ℕ). sizeOfParts (partsIn w′ f k)) (add-one j) ∙ ap sizeOfParts (tab-suc (partIn w′ f) j)
-                ∙ parts-snoc (partsIn w′ f j) (partIn w′ f j) ∙ ap (λ (ps : List Part). sizeOfParts ps + sizeOfPart (partIn w′ f j)) parts-before in
-                let d = g .counted in
-                omega arith);
-            few = used-by .few;
-            ends = ends′;
-            only = only′;
-            going = going-next text item value (partAddress f 0) tableEnd count from first w₀ w j at n (g .going) l w′ (plain p) at′ n′ (ap plain c) turn;
-          }
-        where
-          used-by : PartUsed w′ f j used u
-          used-by = r .used-then at′ n′ u c
-
-          ends′ : PartsEnd w′ f (j + 1) u
-          ends′ k h = go (decLe (suc k) j)
-            where
-              go : Dec (suc k ≤ j) → partEnd w′ f k ≤ u
-              go (yes x) =
-                  let a = end-kept (partAddress f j) used w w′ (r .from) (g .few) f k (omega (arith, ready .few)) in
-                  let b = g .ends k x in
-                  let d = used-by .counted in
-                  omega arith
-              go (no x) =
-                  let e : j ≡ k = omega arith in
-                  subst (λ (i : ℕ). partEnd w′ f i ≤ u) e (used-by .ends)
-
-  pub parts-end : (w : List ℕ) (j used at n : ℕ) (g : PartsGoing w j used at n) → count ≤ j
-      → PartsRead text f count start item from first w₀ w (PoolProgress.Moved at n used)
-  parts-end w j used at n g l =
-      record {
-        read = going-end text item value (partAddress f 0) tableEnd count from first w₀ w j at n (g .going) l;
-        from = g .only;
-        used-then = λ a m u d. subst (PartsUsed w f count start) (moved-used at n used a m u d)
-            (subst (λ (k : ℕ). PartsUsed w f k start used) e (record { counted = g .counted; few = g .few; ends = g .ends }));
-      }
+  pub parts-next : {to : Cursor} → r ≡ Progress.Moved to → PartsGoing text f count (partItem ((rowIn w₀ row) .members) forms keeps (from .used)) from w₀ w′ (j + 1) to
+  parts-next {to} c = record { ends = ends′; pool = pool′; going = going-next (g .going) l c turn }
     where
-      e : j ≡ count
-      e = omega (arith, g .going .within)
+      ends′ : PartsEnd w′ f (j + 1) (to .used)
+      ends′ k h = go (decLe (suc k) j)
+        where
+          go : Dec (suc k ≤ j) → partEnd w′ f k ≤ to .used
+          go (yes x) =
+              let a = end-kept (partAddress f j) (here .used) w w′ (read .pool) (g .going .room .pool) f k (omega (arith, ready .few)) in
+              let b = g .ends k x in
+              let d = (moved-on c (read .read .advanced)) .pool in
+              omega arith
+          go (no x) =
+              let i : j ≡ k = omega arith in
+              subst (λ (i : ℕ). partEnd w′ f i ≤ to .used) i (read .ends to c)
+
+pub parts-end : {text : List ℕ} {f count : ℕ} {item : List Part → Reader Part} {from : Cursor} {w₀ w : List ℕ} {j : ℕ} {here : Cursor} → PartsGoing text f count item from w₀ w j here
+    → count ≤ j → PartsRead text f count item from w₀ w (Progress.Moved here)
+parts-end {f = f} {count = count} {w = w} {j = j} {here = here} g l =
+    record {
+      read = going-end (g .going) l;
+      pool = g .pool;
+      ends = λ to d k h. subst (λ (c : Cursor). partEnd w f k ≤ c .used) (moved-same d) (g .ends k (omega (arith, g .going .within)));
+    }

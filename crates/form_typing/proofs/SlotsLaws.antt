@@ -22,36 +22,35 @@ pub slot-only : (w : List ℕ) (v r : ℕ) → OnlySlots w (set w (slotRowAddres
 slot-only w v r = only-set (slotRowAddress 0) (slotRowAddress 63 + 1) w (slotRowAddress v) r (omega arith) (omega arith)
 
 -- the loop over kept rows
-module _ (f count : ℕ) (few : count ≤ 8) (w₀ : List ℕ) (size : workSize ≤ length w₀) where
-  pub keeps-start : KeepsPut f 0 w₀ w₀
-  keeps-start = record { kept = λ i h. absurd (omega arith); first = λ i h. refl; only = only-refl (slotRowAddress 0) (slotRowAddress 63 + 1) w₀ }
+pub keeps-start : {f : ℕ} {w₀ : List ℕ} → KeepsPut f 0 w₀ w₀
+keeps-start {w₀ = w₀} = record { kept = λ i h. absurd (omega arith); first = λ i h. refl; only = only-refl (slotRowAddress 0) (slotRowAddress 63 + 1) w₀ }
 
-  pub keeps-next : (w : List ℕ) (k : ℕ) → KeepsPut f k w₀ w → k < count → (r : ℕ) → r ≡ getD ((formAt (sheetIn w) f) .keeps) k 0 → (w′ : List ℕ)
-      → w′ ≡ set w (slotRowAddress (2 + k)) r → KeepsPut f (k + 1) w₀ w′
-  keeps-next w k g l r e w′ s =
-      record {
-        kept = kept;
-        first = λ i h. ap (λ (x : List ℕ). cell x (slotRowAddress i)) s ∙ getD-set-other w (slotRowAddress (2 + k)) (slotRowAddress i) r 0 (λ c. omega arith) ∙ g .first i h;
-        only = only-trans (g .only) (subst (OnlySlots w) (sym s) (slot-only w (2 + k) r));
-      }
-    where
-      kept : (i : ℕ) → i < k + 1 → cell w′ (slotRowAddress (2 + i)) ≡ getD ((formAt (sheetIn w₀) f) .keeps) i 0
-      kept i h = go (decLe (suc i) k)
-        where
-          go : Dec (suc i ≤ k) → cell w′ (slotRowAddress (2 + i)) ≡ getD ((formAt (sheetIn w₀) f) .keeps) i 0
-          go (yes m) =
-              ap (λ (x : List ℕ). cell x (slotRowAddress (2 + i))) s
-              ∙ getD-set-other w (slotRowAddress (2 + k)) (slotRowAddress (2 + i)) r 0 (λ c. omega arith) ∙ g .kept i m
-          go (no m) =
-              let q : k ≡ i = omega arith in
-              subst (λ (j : ℕ). cell w′ (slotRowAddress (2 + j)) ≡ getD ((formAt (sheetIn w₀) f) .keeps) j 0) q
-              (ap (λ (x : List ℕ). cell x (slotRowAddress (2 + k))) s ∙ getD-set-same w (slotRowAddress (2 + k)) r 0 (omega (arith, g .only .size))
-              ∙ e ∙ ap (λ (x : Sheet). getD ((formAt x f) .keeps) k 0) (slots-sheet w₀ w (g .only)))
+pub keeps-next : {f : ℕ} {w₀ w : List ℕ} {k : ℕ} → KeepsPut f k w₀ w → k < 8 → workSize ≤ length w₀ → {r : ℕ} → r ≡ getD ((formAt (sheetIn w) f) .keeps) k 0
+    → {w′ : List ℕ} → w′ ≡ set w (slotRowAddress (2 + k)) r → KeepsPut f (k + 1) w₀ w′
+keeps-next {f} {w₀} {w} {k} g few size {r} e {w′} s =
+    record {
+      kept = kept;
+      first = λ i h. ap (λ (x : List ℕ). cell x (slotRowAddress i)) s ∙ getD-set-other w (slotRowAddress (2 + k)) (slotRowAddress i) r 0 (λ c. omega arith) ∙ g .first i h;
+      only = only-trans (g .only) (subst (OnlySlots w) (sym s) (slot-only w (2 + k) r));
+    }
+  where
+    kept : (i : ℕ) → i < k + 1 → cell w′ (slotRowAddress (2 + i)) ≡ getD ((formAt (sheetIn w₀) f) .keeps) i 0
+    kept i h = go (decLe (suc i) k)
+      where
+        go : Dec (suc i ≤ k) → cell w′ (slotRowAddress (2 + i)) ≡ getD ((formAt (sheetIn w₀) f) .keeps) i 0
+        go (yes m) =
+            ap (λ (x : List ℕ). cell x (slotRowAddress (2 + i))) s
+            ∙ getD-set-other w (slotRowAddress (2 + k)) (slotRowAddress (2 + i)) r 0 (λ c. omega arith) ∙ g .kept i m
+        go (no m) =
+            let q : k ≡ i = omega arith in
+            subst (λ (j : ℕ). cell w′ (slotRowAddress (2 + j)) ≡ getD ((formAt (sheetIn w₀) f) .keeps) j 0) q
+            (ap (λ (x : List ℕ). cell x (slotRowAddress (2 + k))) s ∙ getD-set-same w (slotRowAddress (2 + k)) r 0 (omega (arith, g .only .size))
+            ∙ e ∙ ap (λ (x : Sheet). getD ((formAt x f) .keeps) k 0) (slots-sheet (g .only)))
 
 -- all first slots
-module _ (f argument : ℕ) (w : List ℕ) (size : workSize ≤ length w) (row count : ℕ) (row-is : row ≡ (formAt (sheetIn w) f) .row)
-    (count-is : count ≡ length ((formAt (sheetIn w) f) .keeps)) (few : count ≤ 8) (w₁ : List ℕ) (e₁ : w₁ ≡ set w (slotRowAddress 0) row)
-    (w₂ : List ℕ) (e₂ : w₂ ≡ set w₁ (slotRowAddress 1) argument) where
+module _ (f argument : ℕ) (w : List ℕ) (size : workSize ≤ length w) {row count : ℕ} (row-is : row ≡ (formAt (sheetIn w) f) .row)
+    (count-is : count ≡ length ((formAt (sheetIn w) f) .keeps)) (few : count ≤ 8) {w₁ : List ℕ} (e₁ : w₁ ≡ set w (slotRowAddress 0) row)
+    {w₂ : List ℕ} (e₂ : w₂ ≡ set w₁ (slotRowAddress 1) argument) where
   only-first : OnlySlots w w₁
   only-first = subst (OnlySlots w) (sym e₁) (slot-only w 0 row)
 
@@ -66,8 +65,8 @@ module _ (f argument : ℕ) (w : List ℕ) (size : workSize ≤ length w) (row c
   slot-1 : cell w₂ (slotRowAddress 1) ≡ argument
   slot-1 = ap (λ (x : List ℕ). cell x (slotRowAddress 1)) e₂ ∙ getD-set-same w₁ (slotRowAddress 1) argument 0 (omega (arith, only-first .size))
 
-  pub slots-filled : (w′ : List ℕ) → KeepsPut f count w₂ w′ → SlotsFilled f argument w w′ (2 + count)
-  slots-filled w′ k =
+  pub slots-filled : {w′ : List ℕ} → KeepsPut f count w₂ w′ → SlotsFilled f argument w w′ (2 + count)
+  slots-filled {w′} k =
       record {
         rows =
             ext-getD 0 (slotRowsIn w′ (2 + count)) (bodyRows (formAt (sheetIn w) f) argument) lengths
@@ -85,4 +84,4 @@ module _ (f argument : ℕ) (w : List ℕ) (size : workSize ≤ length w) (row c
       each (suc (suc i)) h =
           let p : suc (suc i) ≡ 2 + i = omega arith in
           ap (λ (x : ℕ). cell w′ (slotRowAddress x)) p ∙ k .kept i (omega arith)
-          ∙ ap (λ (x : Sheet). getD ((formAt x f) .keeps) i 0) (slots-sheet w w₂ two-only)
+          ∙ ap (λ (x : Sheet). getD ((formAt x f) .keeps) i 0) (slots-sheet two-only)

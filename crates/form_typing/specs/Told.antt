@@ -3,16 +3,15 @@ use Prim.Native.Nat.{ℕ, _+_, _≤_, _<_}
 use mathlib.Core.Path.{_≡_}
 use mathlib.Core.List.{List, [], _∷_}
 use mathlib.Core.Option.{none, some}
-use lib.ListN.{length, getD}
+use lib.ListN.{getD}
 use Rattle.sheet_rules.specs.declared.Member.{Member}
-use Rattle.sheet_rules.specs.Sheet.{Part, Form, formAt, rowAt}
-use Rattle.type_rules.specs.Typing.{Fault, membersAt, slotRows, bodyRows, instrFaults, partFaults, partsFaults, keepFaults, formFaults}
+use Rattle.sheet_rules.specs.Sheet.{formAt}
+use Rattle.type_rules.specs.Typing.{Fault, membersAt, slotRows, bodyRows, codeFaults, partFaults, partsFaults, keepFaults, formFaults}
 use Rattle.table.specs.Layout.{slotRowAddress}
 use Rattle.table.specs.View.{cell, instrsIn, sheetIn}
 use Rattle.table.specs.declared.forms.PartPlace.{PartPlace}
 use Rattle.table.specs.Told.{slotRowsIn, partTold}
-use Rattle.fit.specs.Told.{tells}
-use Rattle.code_typing.specs.Told.{OnlySlots}
+use Rattle.code_typing.specs.Told.{judgeIn, instrJudgeIn, OnlySlots}
 
 -- the rows of a body's first slots are in place: the own object, the argument, the kept values
 pub record SlotsFilled (f argument : ℕ) (w w′ : List ℕ) (filled : ℕ) : Type 0 where
@@ -28,7 +27,8 @@ pub data PlaceSmall : PartPlace → Type 0 where
 -- the lines of a body of form f, and the rows of all its slots
 abbrev pub bodyFaults : List ℕ → ℕ → (argument result start count : ℕ) → List Fault
 bodyFaults w f argument result start count =
-    none ∷ instrFaults (tells w) (sheetIn w) (some ((formAt (sheetIn w) f) .row)) (some result) (bodyRows (formAt (sheetIn w) f) argument) (instrsIn w start count)
+    none
+    ∷ codeFaults (instrJudgeIn w (some ((formAt (sheetIn w) f) .row)) (some result)) (sheetIn w) (some ((formAt (sheetIn w) f) .row)) (bodyRows (formAt (sheetIn w) f) argument) (instrsIn w start count)
 
 abbrev pub bodySlotRows : List ℕ → ℕ → (argument start count : ℕ) → List ℕ
 bodySlotRows w f argument start count =
@@ -36,18 +36,17 @@ bodySlotRows w f argument start count =
 
 -- the lines of a part of form f for a member, of all its parts, of its `keep` lines, and all its lines
 abbrev pub partFaultsIn : List ℕ → ℕ → Member → PartPlace → List Fault
-partFaultsIn w f m p = partFaults (tells w) (sheetIn w) (formAt (sheetIn w) f) m (partTold w p)
+partFaultsIn w f m p = partFaults (judgeIn w) (sheetIn w) f (formAt (sheetIn w) f) m (partTold w p)
 
 abbrev pub partsFaultsIn : List ℕ → ℕ → List Fault
 partsFaultsIn w f =
-    partsFaults (tells w) (sheetIn w) (formAt (sheetIn w) f) (membersAt (sheetIn w) ((formAt (sheetIn w) f) .row)) ((formAt (sheetIn w) f) .parts)
+    partsFaults (judgeIn w) (sheetIn w) f (formAt (sheetIn w) f) (membersAt (sheetIn w) ((formAt (sheetIn w) f) .row)) ((formAt (sheetIn w) f) .parts)
 
 abbrev pub keepFaultsIn : List ℕ → ℕ → List Fault
-keepFaultsIn w f =
-    keepFaults (sheetIn w) (rowAt ((sheetIn w) .rows) ((formAt (sheetIn w) f) .row)) ((formAt (sheetIn w) f) .keeps)
+keepFaultsIn w f = keepFaults (judgeIn w) f (formAt (sheetIn w) f)
 
 abbrev pub formFaultsIn : List ℕ → ℕ → List Fault
-formFaultsIn w f = formFaults (tells w) (sheetIn w) (formAt (sheetIn w) f)
+formFaultsIn w f = formFaults (judgeIn w) (sheetIn w) f (formAt (sheetIn w) f)
 
 -- kept rows are in place as the rows of the slots after the first two, which are as they were
 pub record KeepsPut (f count : ℕ) (w w′ : List ℕ) : Type 0 where

@@ -3,10 +3,9 @@ ghost use mathlib.Core.Path.{_≡_};
 ghost use mathlib.Core.Bool.{not, _&&_};
 ghost use mathlib.Core.List.{[], _∷_};
 ghost use Prim.Native.Nat.{_+_, _≤_, _<_};
-ghost use lib.ListN.{length, getD};
-ghost use Rattle.sheet_rules.specs.declared.Reason.the-variants.{Misfit, ImpureForm};
+ghost use lib.ListN.{length};
 ghost use Rattle.sheet_rules.specs.Sheet.{rowAt, formAt};
-ghost use Rattle.type_rules.specs.Typing.{membersAt, unless, isPure, hasField, formFault};
+ghost use Rattle.type_rules.specs.Typing.{membersAt, initFault, isPure, hasField, formFault};
 ghost use Rattle.table.specs.View.{sheetIn};
 ghost use Rattle.table.specs.Whole.{Whole};
 ghost use Rattle.fit.specs.Told.{tells};
@@ -76,7 +75,7 @@ fn judge_body(
 // An `init` line of form f: the kept value fits the field's row.
 fn judge_init(work: &[u16], f: usize, kept: u16, row: u16, line: u32) -> Walked
     requires { ⌜ Whole (now work) × (line < lineLimit) ⌝ }
-    ensures { λ r. ⌜ r ≡ walk line (unless (tells (now (work .entry)) (getD ((formAt (sheetIn (now (work .entry))) f) .keeps) kept 0) row) Misfit ∷ []) ⌝ }
+    ensures { λ r. ⌜ r ≡ walk line (initFault (tells (now (work .entry))) (formAt (sheetIn (now (work .entry))) f) row kept ∷ []) ⌝ }
 {
     let given = table::forms::keep(work, f, wide(kept));
     if instr_typing::fits(work, given, row) {

@@ -39,7 +39,7 @@ fn name_in(operation: Operation, numbers: Numbers) -> u16
 }
 
 // Number i is not there, or names a filled slot.
-fn slot_ok(count: u32, i: u32, n: u16, filled: u16) -> bool
+fn slot_ok(count: u16, i: u16, n: u16, filled: u16) -> bool
     ensures { λ r. ⌜ r ≡ slotOk filled count i n ⌝ }
 {
     if count <= i {

@@ -2,7 +2,7 @@
 use Prim.Native.Nat.{ℕ, _+_, _*_}
 use mathlib.Core.Path.{_≡_}
 use mathlib.Core.List.{List, [], _∷_}
-use lib.ListN.{set}
+use lib.ListN.{length, set}
 use Rattle.sheet_rules.specs.declared.Operation.{Operation}
 use Rattle.sheet_rules.specs.Sheet.{Instr}
 use Rattle.sheet_rules.specs.Reader.{one}
@@ -12,8 +12,9 @@ use Rattle.table.specs.Layout.{instrAddress}
 use Rattle.table.specs.View.{instrIn, instrsIn}
 use Rattle.table.specs.Stores.{operationPut}
 use Rattle.table.specs.Only.{Only}
+use Rattle.line_reader.specs.declared.Cursor.{Cursor}
 use Rattle.line_reader.specs.declared.Progress.{Progress}
-use Rattle.reader_loop.specs.Items.{ItemRead}
+use Rattle.reader_loop.specs.Items.{ItemRead, Items}
 
 -- number k of instruction p, stored
 abbrev pub numberPut : List ℕ → ℕ → ℕ → ℕ → List ℕ
@@ -36,12 +37,23 @@ pub record StoredInstr (p : ℕ) (i : Instr) (w w′ : List ℕ) : Type 0 where
   pub holds : instrIn w′ p ≡ i
   pub only : Only (instrAddress p) (instrAddress p + 11) w w′
 
--- one instruction, read
-abbrev pub InstrRead : List ℕ → (p forms filled at n : ℕ) → (w w′ : List ℕ) → Progress → Type 0
-InstrRead text p forms filled at n w w′ r =
-    ItemRead text (one (instrLine forms filled)) (λ x. instrIn x p) (instrAddress p) (instrAddress p + 11) at n w w′ r
+-- the instruction where reading stands, read: it is the next of the pool
+abbrev pub InstrRead : List ℕ → (forms filled : ℕ) → Cursor → (w w′ : List ℕ) → Progress → Type 0
+InstrRead text forms filled from w w′ r =
+    ItemRead text (one (instrLine forms filled)) (λ x. instrIn x (from .used)) (λ x. from .used + 1) (instrAddress (from .used)) (instrAddress (from .used) + 11) from w w′ r
+
+-- `count` instructions, read into the pool from place `start` on
+abbrev pub instrItems : (forms filled start count : ℕ) → Items Instr
+instrItems forms filled start count =
+    record {
+      item = λ before. one (instrLine forms (filled + length before));
+      value = λ x j. instrIn x (start + j);
+      used = λ x j. start + j;
+      lo = instrAddress start;
+      hi = instrAddress start + 11 * count;
+    }
 
 -- a body's instructions, read; nothing else has changed
-abbrev pub InstrsRead : List ℕ → (start count forms filled at n : ℕ) → (w w′ : List ℕ) → Progress → Type 0
-InstrsRead text start count forms filled at n w w′ r =
-    ItemRead text (readInstrs forms filled count) (λ x. instrsIn x start count) (instrAddress start) (instrAddress start + 11 * count) at n w w′ r
+abbrev pub InstrsRead : List ℕ → (count forms filled : ℕ) → Cursor → (w w′ : List ℕ) → Progress → Type 0
+InstrsRead text count forms filled from w w′ r =
+    ItemRead text (readInstrs forms filled count) (λ x. instrsIn x (from .used) count) (λ x. from .used + count) (instrAddress (from .used)) (instrAddress (from .used) + 11 * count) from w w′ r

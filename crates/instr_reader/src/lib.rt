@@ -7,9 +7,11 @@ ghost use Rattle.table.specs.View.{operationCode, instrFrom};
 ghost use Rattle.line_reader.specs.Told.{Room};
 ghost use Rattle.instr_reader.specs.Reads.{firstSix, lastFive, nineOf, StoredInstr, InstrRead, InstrsRead};
 use lexer::Numbers;
+use line_reader::Cursor;
 use line_reader::LineTaken;
 use line_reader::Progress;
 use sheet_rules::Operation;
+use table::rows::wide;
 use table::stores::put_number;
 use table::stores::put_operation;
 
@@ -18,7 +20,7 @@ fn store_head(work: &mut [u16], p: usize, operation: Operation, numbers: Numbers
     requires { ⌜ (p < 1024) × (numbers .count ≤ 9) × (workSize ≤ length (now work)) ⌝ }
     ensures { λ r. ⌜ now (work .exit) ≡ firstSix (now (work .entry)) p operation numbers ⌝ }
 {
-    put_operation(work, p, operation, numbers.count as u16);
+    put_operation(work, p, operation, numbers.count);
     put_number(work, p, 0, numbers.n0);
     put_number(work, p, 1, numbers.n1);
     put_number(work, p, 2, numbers.n2);
@@ -46,61 +48,54 @@ fn store_instr(work: &mut [u16], p: usize, operation: Operation, numbers: Number
     store_tail(work, p, numbers);
 }
 
-// Instruction p of the pool, read from a place of the text, where `filled` slots are filled.
-fn read_instr(
-    text: &[u8],
-    work: &mut [u16],
-    p: usize,
-    forms: u16,
-    filled: u16,
-    at: usize,
-    line: u32,
-) -> Progress
-    requires { ⌜ Room (now text) at line × (p < 1024) × (workSize ≤ length (now work)) ⌝ }
-    ensures { λ r. ⌜ InstrRead (now (text .entry)) p forms filled at line (now (work .entry)) (now (work .exit)) r ⌝ }
+// The instruction where reading stands, where `filled` slots are filled: it is the next of the pool.
+fn read_instr(text: &[u8], work: &mut [u16], forms: u16, filled: u16, from: Cursor) -> Progress
+    requires { ⌜ Room (now text) from × (from .used < 1024) × (workSize ≤ length (now work)) ⌝ }
+    ensures { λ r. ⌜ InstrRead (now (text .entry)) forms filled from (now (work .entry)) (now (work .exit)) r ⌝ }
 {
-    let read = line_reader::take_instr(text, at, line, forms, filled);
+    let read = line_reader::take_instr(text, from, forms, filled);
     let LineTaken::Line {
         place,
         numbers,
-        at: next,
-        line: n,
+        next,
     } = read
     else {
         return line_reader::stopped(read);
     };
     let operation = instr_judge::operation_of(place);
-    store_instr(work, p, operation, numbers);
-    Progress::Moved { at: next, line: n }
+    store_instr(work, wide(from.used), operation, numbers);
+    Progress::Moved {
+        to: Cursor {
+            at: next.at,
+            line: next.line,
+            used: from.used + 1,
+        },
+    }
 }
 
-// A body's instructions, from a place of the pool on. Before the first `filled` slots are filled; each fills one more.
+// `count` instructions of a body or of main. Before the first `filled` slots are filled; each fills one more.
 pub fn read_instrs(
     text: &[u8],
     work: &mut [u16],
-    start: usize,
     count: usize,
     forms: u16,
     filled: u16,
-    from: usize,
-    first: u32,
+    from: Cursor,
 ) -> Progress
-    requires { ⌜ Room (now text) from first × (start + count ≤ 1024) × (filled ≤ 64) × (workSize ≤ length (now work)) ⌝ }
-    ensures { λ r. ⌜ InstrsRead (now (text .entry)) start count forms filled from first (now (work .entry)) (now (work .exit)) r ⌝ }
+    requires { ⌜ Room (now text) from × (from .used + count ≤ 1024) × (filled ≤ 64) × (workSize ≤ length (now work)) ⌝ }
+    ensures { λ r. ⌜ InstrsRead (now (text .entry)) count forms filled from (now (work .entry)) (now (work .exit)) r ⌝ }
 {
     let mut j = 0;
     let mut slots = filled;
-    let mut at = from;
-    let mut line = first;
+    let mut here = from;
     while j < count {
-        let r = read_instr(text, work, start + j, forms, slots, at, line);
-        let Progress::Moved { at: a, line: l } = r else {
+        let r = read_instr(text, work, forms, slots, here);
+        let Progress::Moved { to } = r else {
             return r;
         };
-        at = a;
-        line = l;
+        here = to;
         slots = slots + 1;
         j = j + 1;
     }
-    Progress::Moved { at, line }
+    Progress::Moved { to: here }
 }

@@ -9,12 +9,12 @@ use sheet_rules::Place;
 // A key: where its line may stand, and the fewest and most numbers that follow it.
 pub struct KeyFacts {
     pub place: Place,
-    pub fewest: u32,
-    pub most: u32,
+    pub fewest: u16,
+    pub most: u16,
 }
 
 impl KeyFacts {
-    fn of(place: Place, fewest: u32, most: u32) -> KeyFacts
+    fn of(place: Place, fewest: u16, most: u16) -> KeyFacts
         ensures { λ r. ⌜ r ≡ factsFrom place fewest most ⌝ }
     {
         KeyFacts {
@@ -24,13 +24,13 @@ impl KeyFacts {
         }
     }
 
-    fn member(kind: MemberKind, count: u32) -> KeyFacts
+    fn member(kind: MemberKind, count: u16) -> KeyFacts
         ensures { λ r. ⌜ r ≡ factsFrom (PlaceRule.Member kind) count count ⌝ }
     {
         KeyFacts::of(Place::Member { kind }, count, count)
     }
 
-    fn instruction(operation: Operation, fewest: u32, most: u32) -> KeyFacts
+    fn instruction(operation: Operation, fewest: u16, most: u16) -> KeyFacts
         ensures { λ r. ⌜ r ≡ factsFrom (PlaceRule.Instruction operation) fewest most ⌝ }
     {
         KeyFacts::of(Place::Instruction { operation }, fewest, most)

@@ -24,7 +24,7 @@ pub enum Turn {
 
 // The numbers of a line, nine at the most.
 pub struct Numbers {
-    pub count: u32,
+    pub count: u16,
     pub n0: u16,
     pub n1: u16,
     pub n2: u16,
@@ -162,7 +162,7 @@ impl Numbers {
 }
 
 // The number v if the place is the one sought, and else the number there.
-fn at_place(count: u32, i: u32, v: u16, there: u16) -> u16
+fn at_place(count: u16, i: u16, v: u16, there: u16) -> u16
     ensures { λ r. ⌜ r ≡ atPlace count i v there ⌝ }
 {
     if count == i {

@@ -1,10 +1,10 @@
 -- A law for each exit of the judges of lines. Assumes nothing.
 use Prim.Native.Nat.{ℕ, _+_, _≤_, _<_}
 use mathlib.Core.Path.{_≡_, sym, ap, _∙_, subst}
-use mathlib.Core.Bool.{true, false, _&&_}
+use mathlib.Core.Bool.{Bool, true, false, not, _&&_}
 use mathlib.Core.List.{List}
 use lib.Dec.{T, leb, ltb}
-use borrow.Author.Tests.{lt-ltb, le-ltb, le-leb, lt-leb}
+use borrow.Author.Tests.{not-true, not-false, lt-ltb, le-ltb, le-leb, lt-leb}
 use Rattle.sheet_rules.specs.declared.Place.{Place}
 use Rattle.sheet_rules.specs.declared.Reason.the-variants.{Malformed, OutOfLimit, NotDefined}
 use Rattle.sheet_rules.specs.Keys.{samePlace}
@@ -17,7 +17,15 @@ use Rattle.lexer.specs.Scan.{listOf, Fitting}
 use Rattle.line_judges.specs.Told.{rowTold, formTold}
 use Rattle.line_judges.proofs.JudgeLaws.{stands-place, number-first, number-second, two-of-row, two-of-form, demand-no, demand-yes}
 
-module _ (w k : Place) (ns : Numbers) (h : Fitting k ns) where
+-- by the code's test of a line's place
+
+pub elsewhere : {here test : Bool} → test ≡ here → not test ≡ true → here ≡ false
+elsewhere {test = b} e t = sym e ∙ not-true b t
+
+pub at-place : {here test : Bool} → test ≡ here → not test ≡ false → here ≡ true
+at-place {test = b} e t = sym e ∙ not-false b t
+
+module _ (w : Place) {k : Place} {ns : Numbers} (h : Fitting k ns) where
   -- the limits of a count
   module _ (low high : ℕ) where
     pub count-malformed : samePlace k w ≡ false → bad Malformed ≡ countLine w low high k (listOf ns)
@@ -84,7 +92,7 @@ module _ (w k : Place) (ns : Numbers) (h : Fitting k ns) where
     body-good e f g m =
         sym (body-kept e ∙ demand-yes _ _ _ (simp (le-leb 1 (ns .n0) f, le-leb (ns .n0) 32 g, le-leb (used + ns .n0) 1024 m)))
 
-module _ (k : Place) (ns : Numbers) (h : Fitting k ns) where
+module _ {k : Place} {ns : Numbers} (h : Fitting k ns) where
   -- a row's heading
   module _ (earlier : List Row) where
     pub row-malformed : samePlace k Place.Row ≡ false → bad Malformed ≡ rowLine earlier k (listOf ns)

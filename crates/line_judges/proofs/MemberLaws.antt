@@ -26,31 +26,31 @@ pub refused-not : (r : Reason) {A : Type 0} → LineJudged.Refused r ≡ LineJud
 refused-not r e = clash (cc)
 
 module _ (k : Place) (ns : Numbers) (f : Fitting k ns) where
-  module _ (earlier : List Row) (h : Heading) (before : List Member) where
+  module _ (bound : ℕ) (earlier : List Row) (h : Heading) (before : List Member) where
     abbrev isMember : Bool
     isMember = samePlace k (Place.Member MemberKind.Method)
 
-    pub member-malformed : isMember ≡ false → bad Malformed ≡ memberLine earlier h before k (listOf ns)
+    pub member-malformed : isMember ≡ false → bad Malformed ≡ memberLine bound earlier h before k (listOf ns)
     unfolding memberLine
     member-malformed e = sym (demand-no _ _ _ (stands-place (Place.Member MemberKind.Method) k ns f ∙ e))
 
     member-kept : isMember ≡ true
-        → memberLine earlier h before k (listOf ns)
-        ≡ demand (leb (ns .n0) 63) OutOfLimit (demand (ascends before (ns .n0)) NotAscending (memberRest earlier h before k (listOf ns)))
+        → memberLine bound earlier h before k (listOf ns)
+        ≡ demand (leb (ns .n0) 63) OutOfLimit (demand (ascends before (ns .n0)) NotAscending (memberRest bound earlier h before k (listOf ns)))
     unfolding memberLine memberRest
     member-kept e =
         demand-yes _ _ _ (stands-place (Place.Member MemberKind.Method) k ns f ∙ e)
-        ∙ ap (λ (n : ℕ). demand (leb n 63) OutOfLimit (demand (ascends before n) NotAscending (memberRest earlier h before k (listOf ns)))) (number-first k ns f)
+        ∙ ap (λ (n : ℕ). demand (leb n 63) OutOfLimit (demand (ascends before n) NotAscending (memberRest bound earlier h before k (listOf ns)))) (number-first k ns f)
 
-    pub member-name : isMember ≡ true → 63 < ns .n0 → bad OutOfLimit ≡ memberLine earlier h before k (listOf ns)
+    pub member-name : isMember ≡ true → 63 < ns .n0 → bad OutOfLimit ≡ memberLine bound earlier h before k (listOf ns)
     member-name e l = sym (member-kept e ∙ demand-no _ _ _ (lt-leb (ns .n0) 63 l))
 
     module _ (lowest : ℕ) (low : Lowest before lowest) where
-      pub member-order : isMember ≡ true → ns .n0 ≤ 63 → ns .n0 < lowest → bad NotAscending ≡ memberLine earlier h before k (listOf ns)
+      pub member-order : isMember ≡ true → ns .n0 ≤ 63 → ns .n0 < lowest → bad NotAscending ≡ memberLine bound earlier h before k (listOf ns)
       member-order e l g =
           sym (member-kept e ∙ demand-yes _ _ _ (le-leb (ns .n0) 63 l) ∙ demand-no _ _ _ (low (ns .n0) ∙ lt-leb lowest (ns .n0) g))
 
       pub member-good : isMember ≡ true → ns .n0 ≤ 63 → lowest ≤ ns .n0
-          → memberRest earlier h before k (listOf ns) ≡ memberLine earlier h before k (listOf ns)
+          → memberRest bound earlier h before k (listOf ns) ≡ memberLine bound earlier h before k (listOf ns)
       member-good e l g =
           sym (member-kept e ∙ demand-yes _ _ _ (le-leb (ns .n0) 63 l) ∙ demand-yes _ _ _ (low (ns .n0) ∙ le-leb lowest (ns .n0) g))

@@ -55,9 +55,9 @@ pub strict-form : (rows : ℕ) → Strict (formLine rows)
 unfolding formLine
 strict-form rows k ns h = demand-no _ _ _ (stands-unfit Place.Form k ns h)
 
-pub strict-member : (earlier : List Row) (h : Heading) (before : List Member) → Strict (memberLine earlier h before)
+pub strict-member : (bound : ℕ) (earlier : List Row) (h : Heading) (before : List Member) → Strict (memberLine bound earlier h before)
 unfolding memberLine
-strict-member earlier h before k ns p = demand-no _ _ _ (stands-unfit (Place.Member MemberKind.Method) k ns p)
+strict-member bound earlier h before k ns p = demand-no _ _ _ (stands-unfit (Place.Member MemberKind.Method) k ns p)
 
 pub strict-instr : (forms filled : ℕ) → Strict (instrLine forms filled)
 unfolding instrLine

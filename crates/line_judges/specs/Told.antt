@@ -43,12 +43,12 @@ abbrev pub Lowest : List Member → ℕ → Type 0
 Lowest before lowest = (n : ℕ) → ascends before n ≡ leb lowest n
 
 -- what is asked of a member line after its place, its name and their order: that the row that it completes has no twin, and that
--- the rows it mentions are lower
-unfoldable pub memberRest : List Row → Heading → List Member → Place → List ℕ → Judged Member
-memberRest earlier h before k ns =
+-- the rows it mentions are below a bound
+unfoldable pub memberRest : ℕ → List Row → Heading → List Member → Place → List ℕ → Judged Member
+memberRest bound earlier h before k ns =
     demand
     (not
     (eqb (suc (length before)) (h .count)
     && twin earlier (record { kind = h .kind; members = before ++ (memberOf (memberKind k) ns ∷ []) })))
     DuplicateRow
-    (demand (mentionsBelow (length earlier) (memberOf (memberKind k) ns)) NotDefined (good (memberOf (memberKind k) ns)))
+    (demand (mentionsBelow bound (memberOf (memberKind k) ns)) NotDefined (good (memberOf (memberKind k) ns)))

@@ -1,6 +1,6 @@
 // The judgement of one line by its place and numbers, in the order of the refusals' numbers.
 ghost use mathlib.Core.Path.{_≡_};
-ghost use Prim.Native.Nat.{_≤_, _<_, _+_};
+ghost use Prim.Native.Nat.{ℕ, _≤_, _<_, _+_};
 ghost use Rattle.sheet_rules.specs.Keys.{placeNumber, samePlace, memberKind};
 ghost use Rattle.sheet_rules.specs.Reader.{good, countLine, existingLine};
 ghost use mathlib.Core.List.{List};
@@ -86,7 +86,7 @@ pub fn count_line(wanted: Place, low: u16, high: u16, place: Place, numbers: Num
 }
 
 // `keep=T` and `init=k`: the number of something that is there.
-pub fn existing_line(wanted: Place, there: u16, place: Place, numbers: Numbers) -> LineJudged
+pub fn existing_line(wanted: Place, there: u32, place: Place, numbers: Numbers) -> LineJudged
     requires { ⌜ Fitting place numbers ⌝ }
     ensures { λ r. ⌜ lineTold r (good (numbers .n0)) ≡ existingLine wanted there place (listOf numbers) ⌝ }
 {
@@ -97,7 +97,7 @@ pub fn existing_line(wanted: Place, there: u16, place: Place, numbers: Numbers) 
         };
     }
     let value = numbers.n0;
-    if there <= value {
+    if there <= (value as u32) {
         return LineJudged::Refused {
             reason: Reason::NotDefined,
         };
@@ -106,7 +106,7 @@ pub fn existing_line(wanted: Place, there: u16, place: Place, numbers: Numbers) 
 }
 
 // `body=I` and `main=I`, after `used` instructions of the sheet.
-pub fn body_line(wanted: Place, used: u16, place: Place, numbers: Numbers) -> LineJudged
+pub fn body_line(wanted: Place, used: u32, place: Place, numbers: Numbers) -> LineJudged
     requires { ⌜ Fitting place numbers ⌝ }
     ensures { λ r. ⌜ lineTold r (good (numbers .n0)) ≡ bodyLine wanted used place (listOf numbers) ⌝ }
 {
@@ -127,7 +127,7 @@ pub fn body_line(wanted: Place, used: u16, place: Place, numbers: Numbers) -> Li
             reason: Reason::OutOfLimit,
         };
     }
-    if 1024 < (used as u32) + (value as u32) {
+    if 1024 - (value as u32) < used {
         return LineJudged::Refused {
             reason: Reason::OutOfLimit,
         };
@@ -163,7 +163,7 @@ pub fn row_line(place: Place, numbers: Numbers) -> LineJudged
 }
 
 // `form=T,C`, in a sheet of `rows` rows.
-pub fn form_line(rows: u16, place: Place, numbers: Numbers) -> LineJudged
+pub fn form_line(rows: u32, place: Place, numbers: Numbers) -> LineJudged
     requires { ⌜ Fitting place numbers ⌝ }
     ensures { λ r. ⌜ lineTold r (formTold (numbers .n0) (numbers .n1)) ≡ formLine rows place (listOf numbers) ⌝ }
 {
@@ -180,7 +180,7 @@ pub fn form_line(rows: u16, place: Place, numbers: Numbers) -> LineJudged
             reason: Reason::OutOfLimit,
         };
     }
-    if rows <= first {
+    if rows <= (first as u32) {
         return LineJudged::Refused {
             reason: Reason::NotDefined,
         };
@@ -191,7 +191,7 @@ pub fn form_line(rows: u16, place: Place, numbers: Numbers) -> LineJudged
 // A member line, where the least name that ascends is given: but for the tests of the whole row.
 pub fn member_line(lowest: u32, place: Place, numbers: Numbers) -> LineJudged
     requires { ⌜ Fitting place numbers ⌝ }
-    ensures { λ r. ⌜ ((earlier : List RowRule) (h : Heading) (before : List MemberRule) → Lowest before lowest → lineTold r (memberRest earlier h before place (listOf numbers)) ≡ memberLine earlier h before place (listOf numbers)) ⌝ }
+    ensures { λ r. ⌜ ((limit : ℕ) (earlier : List RowRule) (h : Heading) (before : List MemberRule) → Lowest before lowest → lineTold r (memberRest limit earlier h before place (listOf numbers)) ≡ memberLine limit earlier h before place (listOf numbers)) ⌝ }
     ensures named { λ r. ⌜ (r ≡ LineJudged.Good → samePlace place (PlaceRule.Member MemberKindRule.Method) ≡ true) ⌝ }
 {
     let Place::Member { kind: _ } = place else {

@@ -26,18 +26,19 @@ use Rattle.lexer.specs.Scan.{listOf, lineAt}
 use Rattle.line_judges.specs.declared.LineJudged.{LineJudged}
 use Rattle.line_judges.specs.Told.{lineTold, rowTold, memberRest}
 use Rattle.line_judges.proofs.StrictLaws.{Strict, strict-count, strict-existing, strict-body, strict-row, strict-form, strict-member, strict-instr, one-torn, one-line, Taken, line-taken}
+use Rattle.line_reader.specs.declared.Cursor.{Cursor}
 use Rattle.line_reader.specs.declared.Wanted.{Wanted}
 use Rattle.line_reader.specs.declared.LineTaken.{LineTaken}
-use Rattle.line_reader.specs.Told.{Room, number, heading, instruction, Judges, settled, lineRead, lineAsked, Stands, Tells, Onward, LineTold, InstrTold}
+use Rattle.line_reader.specs.Told.{Room, readFrom, number, heading, instruction, Judges, settled, lineRead, lineAsked, Stands, Tells, Onward, LineTold, InstrTold}
 
-no-line : (q : Reason) (l : ℕ) (k : Place) (ns : Numbers) (at n : ℕ) {A : Type 0} → LineTaken.Refused q l ≡ LineTaken.Line k ns at n → A
-no-line q l k ns at n e = clash (cc)
+no-line : {q : Reason} {l : ℕ} {k : Place} {ns : Numbers} {c : Cursor} {A : Type 0} → LineTaken.Refused q l ≡ LineTaken.Line k ns c → A
+no-line e = clash (cc)
 
-same-numbers : (k k′ : Place) (ns ns′ : Numbers) (at at′ n n′ : ℕ) → LineTaken.Line k ns at n ≡ LineTaken.Line k′ ns′ at′ n′ → ns ≡ ns′
-same-numbers k k′ ns ns′ at at′ n n′ e = cc
+same-numbers : {k k′ : Place} {ns ns′ : Numbers} {c c′ : Cursor} → LineTaken.Line k ns c ≡ LineTaken.Line k′ ns′ c′ → ns ≡ ns′
+same-numbers e = cc
 
-same-key : (k k′ : Place) (ns ns′ : Numbers) (at at′ n n′ : ℕ) → LineTaken.Line k ns at n ≡ LineTaken.Line k′ ns′ at′ n′ → k ≡ k′
-same-key k k′ ns ns′ at at′ n n′ e = cc
+same-key : {k k′ : Place} {ns ns′ : Numbers} {c c′ : Cursor} → LineTaken.Line k ns c ≡ LineTaken.Line k′ ns′ c′ → k ≡ k′
+same-key e = cc
 
 -- a line that was judged good has an instruction's place
 good-place : (forms filled : ℕ) (k : Place) (ns : List ℕ) (i : Instr) → instrLine forms filled k ns ≡ good i → samePlace k (Place.Instruction Operation.New) ≡ true
@@ -50,91 +51,93 @@ good-place forms filled k ns i e =
     go true x e = tt
     go false x e = clash (cc)
 
-module _ (text : List ℕ) (at n : ℕ) where
+module _ (text : List ℕ) (c : Cursor) where
   -- no line, or one that no place takes
-  module _ (e : lineAt text at ≡ LineRead.Torn) where
-    torn : {A : Type 0} (judge : Place → List ℕ → Judged A) → Strict judge → refused Malformed n ≡ one judge (linesOf (drop at text)) n
-    torn judge st = sym (one-torn text at judge st n e)
+  module _ (e : lineAt text (c .at) ≡ LineRead.Torn) where
+    torn : {A : Type 0} (judge : Place → List ℕ → Judged A) → Strict judge → refused Malformed (c .line) ≡ readFrom text c (one judge)
+    torn judge st = sym (one-torn text (c .at) judge st (c .line) e)
 
-    tells-torn : (wanted : Wanted) → Tells wanted text at n (LineTaken.Refused Malformed n)
-    tells-torn Wanted.Types = torn (countLine Place.Types 1 rowLimit) (strict-count Place.Types 1 rowLimit)
-    tells-torn Wanted.Row = ((λ earlier. torn (rowLine earlier) (strict-row earlier)), λ k ns at′ n′ c. no-line Malformed n k ns at′ n′ c)
-    tells-torn (Wanted.Member lowest) =
-        ((λ earlier h before low. torn (memberLine earlier h before) (strict-member earlier h before)), λ k ns at′ n′ c. no-line Malformed n k ns at′ n′ c)
-    tells-torn Wanted.Forms = torn (countLine Place.Forms 0 formLimit) (strict-count Place.Forms 0 formLimit)
-    tells-torn (Wanted.Form rows) = torn (formLine rows) (strict-form rows)
-    tells-torn (Wanted.Keep rows) = torn (existingLine Place.Keep rows) (strict-existing Place.Keep rows)
-    tells-torn (Wanted.Init keeps) = torn (existingLine Place.Init keeps) (strict-existing Place.Init keeps)
-    tells-torn (Wanted.Body used) = torn (bodyLine Place.Body used) (strict-body Place.Body used)
-    tells-torn (Wanted.Main used) = torn (bodyLine Place.Main used) (strict-body Place.Main used)
+    tells-torn : (wanted : Wanted) (b : ℕ) → Tells wanted b text c (LineTaken.Refused Malformed (c .line))
+    tells-torn Wanted.Types b = torn (countLine Place.Types 1 rowLimit) (strict-count Place.Types 1 rowLimit)
+    tells-torn Wanted.Row b = ((λ earlier. torn (rowLine earlier) (strict-row earlier)), λ k ns c′ x. no-line x)
+    tells-torn Wanted.Member b =
+        ((λ limit earlier h before low. torn (memberLine limit earlier h before) (strict-member limit earlier h before)), λ k ns c′ x. no-line x)
+    tells-torn Wanted.Forms b = torn (countLine Place.Forms 0 formLimit) (strict-count Place.Forms 0 formLimit)
+    tells-torn Wanted.Form b = torn (formLine b) (strict-form b)
+    tells-torn Wanted.Keep b = torn (existingLine Place.Keep b) (strict-existing Place.Keep b)
+    tells-torn Wanted.Init b = torn (existingLine Place.Init b) (strict-existing Place.Init b)
+    tells-torn Wanted.Body b = torn (bodyLine Place.Body b) (strict-body Place.Body b)
+    tells-torn Wanted.Main b = torn (bodyLine Place.Main b) (strict-body Place.Main b)
 
-    pub told-torn : (wanted : Wanted) → LineTold wanted text at n (LineTaken.Refused Malformed n)
-    told-torn wanted = record { told = tells-torn wanted; onward = Onward.stopped }
+    pub told-torn : (wanted : Wanted) (b : ℕ) → LineTold wanted b text c (LineTaken.Refused Malformed (c .line))
+    told-torn wanted b = record { told = tells-torn wanted b; onward = Onward.stopped }
 
-    pub instr-torn : (forms filled : ℕ) → InstrTold forms filled text at n (LineTaken.Refused Malformed n)
+    pub instr-torn : (forms filled : ℕ) → InstrTold forms filled text c (LineTaken.Refused Malformed (c .line))
     instr-torn forms filled =
         record {
           told = torn (instrLine forms filled) (strict-instr forms filled);
-          stands = λ k ns at′ n′ c. no-line Malformed n k ns at′ n′ c;
+          stands = λ k ns c′ x. no-line x;
           onward = Onward.stopped;
         }
 
   -- a line, judged
-  module _ (k : Place) (ns : Numbers) (next : ℕ) (e : lineAt text at ≡ LineRead.Line k ns next) where
+  module _ {k : Place} {ns : Numbers} {next : ℕ} (e : lineAt text (c .at) ≡ LineRead.Line k ns next) where
     asked : {A : Type 0} (judge : Place → List ℕ → Judged A) (ask : Place → Numbers → Judged A) (j : LineJudged)
-        → lineTold j (ask k ns) ≡ judge k (listOf ns) → lineAsked text n ask (settled j k ns next n) ≡ one judge (linesOf (drop at text)) n
+        → lineTold j (ask k ns) ≡ judge k (listOf ns) → lineAsked text (c .line) ask (settled j k ns c next) ≡ readFrom text c (one judge)
     unfolding settle
-    asked judge ask j t = each j ∙ ap (λ x. settle x (linesOf (drop next text)) n) t ∙ sym (one-line text at judge n k ns next e)
+    asked judge ask j t = each j ∙ ap (λ x. settle x (linesOf (drop next text)) (c .line)) t ∙ sym (one-line text (c .at) judge (c .line) k ns next e)
       where
-        each : (j : LineJudged) → lineAsked text n ask (settled j k ns next n) ≡ settle (lineTold j (ask k ns)) (linesOf (drop next text)) n
+        each : (j : LineJudged) → lineAsked text (c .line) ask (settled j k ns c next) ≡ settle (lineTold j (ask k ns)) (linesOf (drop next text)) (c .line)
         each LineJudged.Good = refl
         each (LineJudged.Refused q) = refl
 
     judged : {A : Type 0} (judge : Place → List ℕ → Judged A) (make : Place → Numbers → A) (j : LineJudged)
-        → lineTold j (good (make k ns)) ≡ judge k (listOf ns) → lineRead text make (settled j k ns next n) ≡ one judge (linesOf (drop at text)) n
+        → lineTold j (good (make k ns)) ≡ judge k (listOf ns) → lineRead text make (settled j k ns c next) ≡ readFrom text c (one judge)
     unfolding settle
     judged judge make j t = each j ∙ asked judge (λ k ns. good (make k ns)) j t
       where
-        each : (j : LineJudged) → lineRead text make (settled j k ns next n) ≡ lineAsked text n (λ k ns. good (make k ns)) (settled j k ns next n)
-        each LineJudged.Good = ap (λ (m : ℕ). got (make k ns) (linesOf (drop next text)) m) (add-one n)
+        each : (j : LineJudged) → lineRead text make (settled j k ns c next) ≡ lineAsked text (c .line) (λ k ns. good (make k ns)) (settled j k ns c next)
+        each LineJudged.Good = ap (λ (m : ℕ). got (make k ns) (linesOf (drop next text)) m) (add-one (c .line))
         each (LineJudged.Refused q) = refl
 
     -- a fact of every good line, by what was settled
-    few : (j : LineJudged) → (j ≡ LineJudged.Good → ns .n1 ≤ 8) → (k′ : Place) (ns′ : Numbers) (at′ n′ : ℕ) → settled j k ns next n ≡ LineTaken.Line k′ ns′ at′ n′ → ns′ .n1 ≤ 8
-    few LineJudged.Good h k′ ns′ at′ n′ c = subst (λ (x : Numbers). x .n1 ≤ 8) (same-numbers k k′ ns ns′ next at′ (n + 1) n′ c) (h refl)
-    few (LineJudged.Refused q) h k′ ns′ at′ n′ c = no-line q n k′ ns′ at′ n′ c
+    few : (j : LineJudged) → (j ≡ LineJudged.Good → ns .n1 ≤ 8) → (k′ : Place) (ns′ : Numbers) (c′ : Cursor) → settled j k ns c next ≡ LineTaken.Line k′ ns′ c′ → ns′ .n1 ≤ 8
+    few LineJudged.Good h k′ ns′ c′ x = subst (λ (y : Numbers). y .n1 ≤ 8) (same-numbers x) (h refl)
+    few (LineJudged.Refused q) h k′ ns′ c′ x = no-line x
 
-    here : (w : Place) (j : LineJudged) → (j ≡ LineJudged.Good → samePlace k w ≡ true) → Stands w (settled j k ns next n)
-    here w LineJudged.Good h k′ ns′ at′ n′ c = subst (λ (x : Place). samePlace x w ≡ true) (same-key k k′ ns ns′ next at′ (n + 1) n′ c) (h refl)
-    here w (LineJudged.Refused q) h k′ ns′ at′ n′ c = no-line q n k′ ns′ at′ n′ c
+    here : (w : Place) (j : LineJudged) → (j ≡ LineJudged.Good → samePlace k w ≡ true) → Stands w (settled j k ns c next)
+    here w LineJudged.Good h k′ ns′ c′ x = subst (λ (y : Place). samePlace y w ≡ true) (same-key x) (h refl)
+    here w (LineJudged.Refused q) h k′ ns′ c′ x = no-line x
 
-    tells-line : (wanted : Wanted) (j : LineJudged) → Judges wanted k ns j → Tells wanted text at n (settled j k ns next n)
-    tells-line Wanted.Types j t = judged (countLine Place.Types 1 rowLimit) number j t
-    tells-line Wanted.Row j t = ((λ earlier. asked (rowLine earlier) (λ k ns. rowTold earlier (ns .n0) (ns .n1)) j (t .0 earlier)), few j (t .1))
-    tells-line (Wanted.Member lowest) j t =
-        ((λ earlier h before low. asked (memberLine earlier h before) (λ k ns. memberRest earlier h before k (listOf ns)) j (t .0 earlier h before low)), here (Place.Member MemberKind.Method) j (t .1))
-    tells-line Wanted.Forms j t = judged (countLine Place.Forms 0 formLimit) number j t
-    tells-line (Wanted.Form rows) j t = judged (formLine rows) heading j t
-    tells-line (Wanted.Keep rows) j t = judged (existingLine Place.Keep rows) number j t
-    tells-line (Wanted.Init keeps) j t = judged (existingLine Place.Init keeps) number j t
-    tells-line (Wanted.Body used) j t = judged (bodyLine Place.Body used) number j t
-    tells-line (Wanted.Main used) j t = judged (bodyLine Place.Main used) number j t
+    tells-line : (wanted : Wanted) (b : ℕ) (j : LineJudged) → Judges wanted b k ns j → Tells wanted b text c (settled j k ns c next)
+    tells-line Wanted.Types b j t = judged (countLine Place.Types 1 rowLimit) number j t
+    tells-line Wanted.Row b j t = ((λ earlier. asked (rowLine earlier) (λ k ns. rowTold earlier (ns .n0) (ns .n1)) j (t .0 earlier)), few j (t .1))
+    tells-line Wanted.Member b j t = (
+      (λ limit earlier h before low. asked (memberLine limit earlier h before) (λ k ns. memberRest limit earlier h before k (listOf ns)) j (t .0 limit earlier h before low)),
+      here (Place.Member MemberKind.Method) j (t .1),
+    )
+    tells-line Wanted.Forms b j t = judged (countLine Place.Forms 0 formLimit) number j t
+    tells-line Wanted.Form b j t = judged (formLine b) heading j t
+    tells-line Wanted.Keep b j t = judged (existingLine Place.Keep b) number j t
+    tells-line Wanted.Init b j t = judged (existingLine Place.Init b) number j t
+    tells-line Wanted.Body b j t = judged (bodyLine Place.Body b) number j t
+    tells-line Wanted.Main b j t = judged (bodyLine Place.Main b) number j t
 
-    onward : Room text at n → (j : LineJudged) → Onward text at n (settled j k ns next n)
+    onward : Room text c → (j : LineJudged) → Onward text c (settled j k ns c next)
     onward room LineJudged.Good =
-        let taken : Taken text at k ns next = line-taken text at k ns next e in
-        let l : n + 1 ≤ next + 1 = omega (arith, room .lines, taken .later) in
-        Onward.moved (taken .later) (record { small = room .small; inside = taken .inside; lines = l }) (taken .fitting)
+        let taken : Taken text (c .at) k ns next = line-taken text (c .at) k ns next e in
+        let l : c .line + 1 ≤ next + 1 = omega (arith, room .lines, taken .later) in
+        Onward.moved (taken .later) (record { small = room .small; inside = taken .inside; lines = l; pool = room .pool }) (taken .fitting)
     onward room (LineJudged.Refused q) = Onward.stopped
 
-    pub told-line : Room text at n → (wanted : Wanted) (j : LineJudged) → Judges wanted k ns j → (p : LineTaken) → p ≡ settled j k ns next n
-        → LineTold wanted text at n p
-    told-line room wanted j t p c = subst (LineTold wanted text at n) (sym c) (record { told = tells-line wanted j t; onward = onward room j })
+    pub told-line : Room text c → (wanted : Wanted) (b : ℕ) (j : LineJudged) → Judges wanted b k ns j → {p : LineTaken} → p ≡ settled j k ns c next
+        → LineTold wanted b text c p
+    told-line room wanted b j t x = subst (LineTold wanted b text c) (sym x) (record { told = tells-line wanted b j t; onward = onward room j })
 
-    pub instr-line : Room text at n → (forms filled : ℕ) (j : LineJudged) → lineTold j (good (instruction k ns)) ≡ instrLine forms filled k (listOf ns)
-        → (p : LineTaken) → p ≡ settled j k ns next n → InstrTold forms filled text at n p
-    instr-line room forms filled j t p c =
-        subst (InstrTold forms filled text at n) (sym c)
+    pub instr-line : Room text c → (forms filled : ℕ) (j : LineJudged) → lineTold j (good (instruction k ns)) ≡ instrLine forms filled k (listOf ns)
+        → {p : LineTaken} → p ≡ settled j k ns c next → InstrTold forms filled text c p
+    instr-line room forms filled j t x =
+        subst (InstrTold forms filled text c) (sym x)
         (record {
           told = judged (instrLine forms filled) instruction j t;
           stands =

@@ -1,4 +1,4 @@
--- What the reader of lines tells, in the rules' words, and what a place in a text must be. Stands on reading.
+-- What the reader of lines tells, in the rules' words, and where reading may stand. Stands on reading.
 use Prim.Native.Nat.{ℕ, _+_, _≤_, _<_}
 use mathlib.Core.Path.{_≡_}
 use mathlib.Core.Bool.{true}
@@ -13,22 +13,41 @@ use Rattle.sheet_rules.specs.Limits.{rowLimit, formLimit}
 use Rattle.sheet_rules.specs.Keys.{samePlace, operationOf}
 use Rattle.sheet_rules.specs.Lines.{linesOf}
 use Rattle.sheet_rules.specs.Sheet.{Row, Instr}
-use Rattle.sheet_rules.specs.Reader.{Judged, good, Read, got, refused, settle, one, countLine, existingLine}
+use Rattle.sheet_rules.specs.Reader.{Judged, good, Read, got, refused, Reader, settle, one, countLine, existingLine}
 use Rattle.sheet_rules.specs.RowLines.{Heading, rowLine, memberLine}
 use Rattle.sheet_rules.specs.FormLines.{FormHeading, formLine, bodyLine, instrOf, instrLine}
 use Rattle.lexer.specs.declared.Numbers.{Numbers}
 use Rattle.lexer.specs.Scan.{listOf, Fitting}
 use Rattle.line_judges.specs.declared.LineJudged.{LineJudged}
 use Rattle.line_judges.specs.Told.{lineTold, rowTold, Lowest, memberRest}
+use Rattle.line_reader.specs.declared.Cursor.{Cursor}
 use Rattle.line_reader.specs.declared.Wanted.{Wanted}
 use Rattle.line_reader.specs.declared.LineTaken.{LineTaken}
 use Rattle.line_reader.specs.declared.Progress.{Progress}
 
--- a place in a text of at most 65,535 bytes, with the number of the line there: no line is shorter than a byte
-pub record Room (text : List ℕ) (at line : ℕ) : Type 0 where
+-- WHERE READING STANDS
+
+-- in a text of at most 65,535 bytes, with the number of the line there, since no line is shorter than a byte; and no more instructions
+-- were read than a sheet may have
+pub record Room (text : List ℕ) (c : Cursor) : Type 0 where
   pub small : length text ≤ 65535
-  pub inside : at ≤ length text
-  pub lines : line ≤ at + 1
+  pub inside : c .at ≤ length text
+  pub lines : c .line ≤ c .at + 1
+  pub pool : c .used ≤ 1024
+
+-- what a reader of the rules gives from there
+abbrev pub readFrom : {A : Type 0} → List ℕ → Cursor → Reader A → Read A
+readFrom text c item = item (linesOf (drop (c .at) text)) (c .line)
+
+-- a value that was read, when reading stands there
+abbrev pub gotAt : {A : Type 0} → List ℕ → Cursor → A → Read A
+gotAt text c a = got a (linesOf (drop (c .at) text)) (c .line)
+
+-- a line later, at a place of the text
+abbrev pub nextLine : Cursor → ℕ → Cursor
+nextLine c at = record { at = at; line = c .line + 1; used = c .used }
+
+-- A LINE, JUDGED
 
 -- the number of a line with one, the heading of a form, and the instruction, that a line's numbers make
 abbrev pub number : Place → Numbers → ℕ
@@ -40,85 +59,89 @@ heading k ns = record { row = ns .n0; count = ns .n1 }
 abbrev pub instruction : Place → Numbers → Instr
 instruction k ns = instrOf (operationOf k) (listOf ns)
 
--- a judgement of a line where one is wanted tells what the rules judge there
-abbrev pub Judges : Wanted → Place → Numbers → LineJudged → Type 0
-Judges Wanted.Types k ns j = lineTold j (good (number k ns)) ≡ countLine Place.Types 1 rowLimit k (listOf ns)
-Judges Wanted.Row k ns j =
+-- a judgement of a line where one is wanted, by a bound, tells what the rules judge there
+abbrev pub Judges : Wanted → ℕ → Place → Numbers → LineJudged → Type 0
+Judges Wanted.Types b k ns j = lineTold j (good (number k ns)) ≡ countLine Place.Types 1 rowLimit k (listOf ns)
+Judges Wanted.Row b k ns j =
     ((earlier : List Row) → lineTold j (rowTold earlier (ns .n0) (ns .n1)) ≡ rowLine earlier k (listOf ns)) × (j ≡ LineJudged.Good → ns .n1 ≤ 8)
-Judges (Wanted.Member lowest) k ns j =
-    ((earlier : List Row) (h : Heading) (before : List Member) → Lowest before lowest
-    → lineTold j (memberRest earlier h before k (listOf ns)) ≡ memberLine earlier h before k (listOf ns))
+Judges Wanted.Member b k ns j =
+    ((limit : ℕ) (earlier : List Row) (h : Heading) (before : List Member) → Lowest before b
+    → lineTold j (memberRest limit earlier h before k (listOf ns)) ≡ memberLine limit earlier h before k (listOf ns))
     × (j ≡ LineJudged.Good → samePlace k (Place.Member MemberKind.Method) ≡ true)
-Judges Wanted.Forms k ns j = lineTold j (good (number k ns)) ≡ countLine Place.Forms 0 formLimit k (listOf ns)
-Judges (Wanted.Form rows) k ns j = lineTold j (good (heading k ns)) ≡ formLine rows k (listOf ns)
-Judges (Wanted.Keep rows) k ns j = lineTold j (good (number k ns)) ≡ existingLine Place.Keep rows k (listOf ns)
-Judges (Wanted.Init keeps) k ns j = lineTold j (good (number k ns)) ≡ existingLine Place.Init keeps k (listOf ns)
-Judges (Wanted.Body used) k ns j = lineTold j (good (number k ns)) ≡ bodyLine Place.Body used k (listOf ns)
-Judges (Wanted.Main used) k ns j = lineTold j (good (number k ns)) ≡ bodyLine Place.Main used k (listOf ns)
+Judges Wanted.Forms b k ns j = lineTold j (good (number k ns)) ≡ countLine Place.Forms 0 formLimit k (listOf ns)
+Judges Wanted.Form b k ns j = lineTold j (good (heading k ns)) ≡ formLine b k (listOf ns)
+Judges Wanted.Keep b k ns j = lineTold j (good (number k ns)) ≡ existingLine Place.Keep b k (listOf ns)
+Judges Wanted.Init b k ns j = lineTold j (good (number k ns)) ≡ existingLine Place.Init b k (listOf ns)
+Judges Wanted.Body b k ns j = lineTold j (good (number k ns)) ≡ bodyLine Place.Body b k (listOf ns)
+Judges Wanted.Main b k ns j = lineTold j (good (number k ns)) ≡ bodyLine Place.Main b k (listOf ns)
 
--- a judged line, with the place after it
-abbrev pub settled : LineJudged → Place → Numbers → ℕ → ℕ → LineTaken
-settled LineJudged.Good k ns at n = LineTaken.Line k ns at (n + 1)
-settled (LineJudged.Refused r) k ns at n = LineTaken.Refused r n
+-- a judged line that ends before a place of the text, with where reading then stands
+abbrev pub settled : LineJudged → Place → Numbers → Cursor → ℕ → LineTaken
+settled LineJudged.Good k ns c at = LineTaken.Line k ns (nextLine c at)
+settled (LineJudged.Refused r) k ns c at = LineTaken.Refused r (c .line)
 
--- a line, read: what its numbers make, and the lines from the place after it
+-- A LINE, READ
+
+-- what its numbers make, and the lines after it
 abbrev pub lineRead : {A : Type 0} → List ℕ → (Place → Numbers → A) → LineTaken → Read A
-lineRead text make (LineTaken.Line k ns at n) = got (make k ns) (linesOf (drop at text)) n
+lineRead text make (LineTaken.Line k ns c) = gotAt text c (make k ns)
 lineRead text make (LineTaken.Refused r n) = refused r n
 
 -- the same for line n, where more is asked of what its numbers make
 abbrev pub lineAsked : {A : Type 0} → List ℕ → ℕ → (Place → Numbers → Judged A) → LineTaken → Read A
-lineAsked text n ask (LineTaken.Line k ns at n′) = settle (ask k ns) (linesOf (drop at text)) n
+lineAsked text n ask (LineTaken.Line k ns c) = settle (ask k ns) (linesOf (drop (c .at) text)) n
 lineAsked text n ask (LineTaken.Refused r l) = refused r l
 
 -- a line that was taken stands at a place
 abbrev pub Stands : Place → LineTaken → Type 0
-Stands w p = (k : Place) (ns : Numbers) (at n : ℕ) → p ≡ LineTaken.Line k ns at n → samePlace k w ≡ true
+Stands w p = (k : Place) (ns : Numbers) (c : Cursor) → p ≡ LineTaken.Line k ns c → samePlace k w ≡ true
 
 -- what was read where a line is wanted is what the rules read there
-abbrev pub Tells : Wanted → List ℕ → ℕ → ℕ → LineTaken → Type 0
-Tells Wanted.Types text at n p = lineRead text number p ≡ one (countLine Place.Types 1 rowLimit) (linesOf (drop at text)) n
-Tells Wanted.Row text at n p =
-    ((earlier : List Row) → lineAsked text n (λ k ns. rowTold earlier (ns .n0) (ns .n1)) p ≡ one (rowLine earlier) (linesOf (drop at text)) n)
-    × ((k : Place) (ns : Numbers) (at′ n′ : ℕ) → p ≡ LineTaken.Line k ns at′ n′ → ns .n1 ≤ 8)
-Tells (Wanted.Member lowest) text at n p =
-    ((earlier : List Row) (h : Heading) (before : List Member) → Lowest before lowest
-    → lineAsked text n (λ k ns. memberRest earlier h before k (listOf ns)) p ≡ one (memberLine earlier h before) (linesOf (drop at text)) n)
+abbrev pub Tells : Wanted → ℕ → List ℕ → Cursor → LineTaken → Type 0
+Tells Wanted.Types b text c p = lineRead text number p ≡ readFrom text c (one (countLine Place.Types 1 rowLimit))
+Tells Wanted.Row b text c p =
+    ((earlier : List Row) → lineAsked text (c .line) (λ k ns. rowTold earlier (ns .n0) (ns .n1)) p ≡ readFrom text c (one (rowLine earlier)))
+    × ((k : Place) (ns : Numbers) (c′ : Cursor) → p ≡ LineTaken.Line k ns c′ → ns .n1 ≤ 8)
+Tells Wanted.Member b text c p =
+    ((limit : ℕ) (earlier : List Row) (h : Heading) (before : List Member) → Lowest before b
+    → lineAsked text (c .line) (λ k ns. memberRest limit earlier h before k (listOf ns)) p ≡ readFrom text c (one (memberLine limit earlier h before)))
     × Stands (Place.Member MemberKind.Method) p
-Tells Wanted.Forms text at n p = lineRead text number p ≡ one (countLine Place.Forms 0 formLimit) (linesOf (drop at text)) n
-Tells (Wanted.Form rows) text at n p = lineRead text heading p ≡ one (formLine rows) (linesOf (drop at text)) n
-Tells (Wanted.Keep rows) text at n p = lineRead text number p ≡ one (existingLine Place.Keep rows) (linesOf (drop at text)) n
-Tells (Wanted.Init keeps) text at n p = lineRead text number p ≡ one (existingLine Place.Init keeps) (linesOf (drop at text)) n
-Tells (Wanted.Body used) text at n p = lineRead text number p ≡ one (bodyLine Place.Body used) (linesOf (drop at text)) n
-Tells (Wanted.Main used) text at n p = lineRead text number p ≡ one (bodyLine Place.Main used) (linesOf (drop at text)) n
+Tells Wanted.Forms b text c p = lineRead text number p ≡ readFrom text c (one (countLine Place.Forms 0 formLimit))
+Tells Wanted.Form b text c p = lineRead text heading p ≡ readFrom text c (one (formLine b))
+Tells Wanted.Keep b text c p = lineRead text number p ≡ readFrom text c (one (existingLine Place.Keep b))
+Tells Wanted.Init b text c p = lineRead text number p ≡ readFrom text c (one (existingLine Place.Init b))
+Tells Wanted.Body b text c p = lineRead text number p ≡ readFrom text c (one (bodyLine Place.Body b))
+Tells Wanted.Main b text c p = lineRead text number p ≡ readFrom text c (one (bodyLine Place.Main b))
 
--- the place after a line is one of the text, and further on; its numbers are as many as its key takes
-pub data Onward (text : List ℕ) (at n : ℕ) : LineTaken → Type 0 where
-  moved : {k : Place} {ns : Numbers} {at′ : ℕ} → at < at′ → Room text at′ (n + 1) → Fitting k ns → Onward text at n (LineTaken.Line k ns at′ (n + 1))
-  stopped : {r : Reason} {l : ℕ} → Onward text at n (LineTaken.Refused r l)
+-- reading goes on further down the text, a line later, with as many instructions; and the line has as many numbers as its key takes
+pub data Onward (text : List ℕ) (c : Cursor) : LineTaken → Type 0 where
+  moved : {k : Place} {ns : Numbers} {at : ℕ} → c .at < at → Room text (nextLine c at) → Fitting k ns → Onward text c (LineTaken.Line k ns (nextLine c at))
+  stopped : {r : Reason} {l : ℕ} → Onward text c (LineTaken.Refused r l)
 
--- the line at a place of a text, where one is wanted, was read
-pub record LineTold (wanted : Wanted) (text : List ℕ) (at n : ℕ) (p : LineTaken) : Type 0 where
-  pub told : Tells wanted text at n p
-  pub onward : Onward text at n p
+-- the line where reading stands, where one is wanted, was read
+pub record LineTold (wanted : Wanted) (b : ℕ) (text : List ℕ) (c : Cursor) (p : LineTaken) : Type 0 where
+  pub told : Tells wanted b text c p
+  pub onward : Onward text c p
 
--- the instruction line at a place of a text was read
-pub record InstrTold (forms filled : ℕ) (text : List ℕ) (at n : ℕ) (p : LineTaken) : Type 0 where
-  pub told : lineRead text instruction p ≡ one (instrLine forms filled) (linesOf (drop at text)) n
+-- the instruction line where reading stands was read
+pub record InstrTold (forms filled : ℕ) (text : List ℕ) (c : Cursor) (p : LineTaken) : Type 0 where
+  pub told : lineRead text instruction p ≡ readFrom text c (one (instrLine forms filled))
   pub stands : Stands (Place.Instruction Operation.New) p
-  pub onward : Onward text at n p
+  pub onward : Onward text c p
 
--- some lines, read, with the value that they left
+-- SOME LINES, READ
+
+-- with the value that they left
 abbrev pub readTold : {A : Type 0} → List ℕ → Progress → A → Read A
-readTold text (Progress.Moved at n) a = got a (linesOf (drop at text)) n
+readTold text (Progress.Moved c) a = gotAt text c a
 readTold text (Progress.Refused r n) a = refused r n
 
 -- where a line was refused, reading stops
 abbrev pub stoppedBy : LineTaken → Progress
-stoppedBy (LineTaken.Line k ns at n) = Progress.Moved at n
+stoppedBy (LineTaken.Line k ns c) = Progress.Moved c
 stoppedBy (LineTaken.Refused r n) = Progress.Refused r n
 
--- the place after some lines is one of the text, and not before
-pub data Advanced (text : List ℕ) (at : ℕ) : Progress → Type 0 where
-  moved : {at′ n : ℕ} → at ≤ at′ → Room text at′ n → Advanced text at (Progress.Moved at′ n)
-  stopped : {r : Reason} {n : ℕ} → Advanced text at (Progress.Refused r n)
+-- reading then stands in the text, no earlier than before, with `used` instructions read
+pub data Advanced (text : List ℕ) (c : Cursor) (used : ℕ) : Progress → Type 0 where
+  moved : {c′ : Cursor} → c .at ≤ c′ .at → Room text c′ → c′ .used ≡ used → Advanced text c used (Progress.Moved c′)
+  stopped : {r : Reason} {n : ℕ} → Advanced text c used (Progress.Refused r n)

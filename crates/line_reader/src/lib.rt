@@ -2,33 +2,39 @@
 ghost use mathlib.Core.Path.{_≡_};
 ghost use Prim.Native.Nat.{_<_};
 ghost use Rattle.lexer.specs.Scan.{Fitting};
-ghost use Rattle.line_reader.specs.Told.{Room, Judges, settled, stoppedBy, LineTold, InstrTold};
+ghost use Rattle.line_reader.specs.Told.{Room, Judges, nextLine, settled, stoppedBy, LineTold, InstrTold};
 use lexer::LineRead;
 use lexer::Numbers;
 use line_judges::LineJudged;
 use sheet_rules::Place;
 use sheet_rules::Reason;
 
-// The line that a reader waits for, if no instruction: where it stands, and what its numbers are judged by.
+// Where reading stands: a place in the text, the number of the line there, and how many instructions were read.
+pub struct Cursor {
+    pub at: usize,
+    pub line: u32,
+    pub used: u16,
+}
+
+// The line that a reader waits for, if no instruction.
 pub enum Wanted {
     Types,
     Row,
-    Member { lowest: u32 },
+    Member,
     Forms,
-    Form { rows: u16 },
-    Keep { rows: u16 },
-    Init { keeps: u16 },
-    Body { used: u16 },
-    Main { used: u16 },
+    Form,
+    Keep,
+    Init,
+    Body,
+    Main,
 }
 
-// A line of the wanted place, judged: its numbers and the place after it, or the refusal.
+// A line of the wanted place, judged: its numbers and where reading then stands, or the refusal.
 pub enum LineTaken {
     Line {
         place: Place,
         numbers: Numbers,
-        at: usize,
-        line: u32,
+        next: Cursor,
     },
     Refused {
         reason: Reason,
@@ -36,85 +42,100 @@ pub enum LineTaken {
     },
 }
 
-// How reading some lines goes on: the place after them, or the refusal.
+// How reading some lines goes on: where it then stands, or the refusal.
 pub enum Progress {
-    Moved { at: usize, line: u32 },
+    Moved { to: Cursor },
     Refused { reason: Reason, line: u32 },
 }
 
-// Judges a line by what is wanted there.
-fn judge(wanted: Wanted, place: Place, numbers: Numbers) -> LineJudged
+// Judges a line by what is wanted there and by a bound: the lowest name of a member, how many rows a kept row or a form may have,
+// how many values an `init` may name, how many instructions a body comes after. The other lines have none.
+fn judge(wanted: Wanted, bound: u32, place: Place, numbers: Numbers) -> LineJudged
     requires { ⌜ Fitting place numbers ⌝ }
-    ensures { λ r. ⌜ Judges wanted place numbers r ⌝ }
+    ensures { λ r. ⌜ Judges wanted bound place numbers r ⌝ }
 {
     match wanted {
         Wanted::Types => line_judges::count_line(Place::Types, 1, 64, place, numbers),
         Wanted::Row => line_judges::row_line(place, numbers),
-        Wanted::Member { lowest } => line_judges::member_line(lowest, place, numbers),
+        Wanted::Member => line_judges::member_line(bound, place, numbers),
         Wanted::Forms => line_judges::count_line(Place::Forms, 0, 64, place, numbers),
-        Wanted::Form { rows } => line_judges::form_line(rows, place, numbers),
-        Wanted::Keep { rows } => line_judges::existing_line(Place::Keep, rows, place, numbers),
-        Wanted::Init { keeps } => line_judges::existing_line(Place::Init, keeps, place, numbers),
-        Wanted::Body { used } => line_judges::body_line(Place::Body, used, place, numbers),
-        Wanted::Main { used } => line_judges::body_line(Place::Main, used, place, numbers),
+        Wanted::Form => line_judges::form_line(bound, place, numbers),
+        Wanted::Keep => line_judges::existing_line(Place::Keep, bound, place, numbers),
+        Wanted::Init => line_judges::existing_line(Place::Init, bound, place, numbers),
+        Wanted::Body => line_judges::body_line(Place::Body, bound, place, numbers),
+        Wanted::Main => line_judges::body_line(Place::Main, bound, place, numbers),
     }
 }
 
-// A judged line, with the place after it.
-fn settle(judged: LineJudged, place: Place, numbers: Numbers, at: usize, line: u32) -> LineTaken
-    requires { ⌜ line < 4294967295 ⌝ }
-    ensures { λ r. ⌜ r ≡ settled judged place numbers at line ⌝ }
+// A line later, at a place of the text.
+fn next_line(from: Cursor, at: usize) -> Cursor
+    requires { ⌜ from .line < 4294967295 ⌝ }
+    ensures { λ r. ⌜ r ≡ nextLine from at ⌝ }
+{
+    Cursor {
+        at,
+        line: from.line + 1,
+        used: from.used,
+    }
+}
+
+// A judged line that ends before a place of the text, with where reading then stands.
+fn settle(judged: LineJudged, place: Place, numbers: Numbers, from: Cursor, at: usize) -> LineTaken
+    requires { ⌜ from .line < 4294967295 ⌝ }
+    ensures { λ r. ⌜ r ≡ settled judged place numbers from at ⌝ }
 {
     match judged {
         LineJudged::Good => LineTaken::Line {
             place,
             numbers,
-            at,
-            line: line + 1,
+            next: next_line(from, at),
         },
-        LineJudged::Refused { reason } => LineTaken::Refused { reason, line },
+        LineJudged::Refused { reason } => LineTaken::Refused {
+            reason,
+            line: from.line,
+        },
     }
 }
 
-// The line at a place of the text, where one is wanted.
-pub fn take_line(text: &[u8], at: usize, line: u32, wanted: Wanted) -> LineTaken
-    requires { ⌜ Room (now text) at line ⌝ }
-    ensures { λ r. ⌜ LineTold wanted (now (text .entry)) at line r ⌝ }
+// The line where reading stands, where one is wanted.
+pub fn take_line(text: &[u8], from: Cursor, wanted: Wanted, bound: u32) -> LineTaken
+    requires { ⌜ Room (now text) from ⌝ }
+    ensures { λ r. ⌜ LineTold wanted bound (now (text .entry)) from r ⌝ }
 {
     let LineRead::Line {
         place,
         numbers,
         next,
-    } = lexer::read_line(text, at)
+    } = lexer::read_line(text, from.at)
     else {
         return LineTaken::Refused {
             reason: Reason::Malformed,
-            line,
+            line: from.line,
         };
     };
-    let judged = judge(wanted, place, numbers);
-    settle(judged, place, numbers, next, line)
+    let judged = judge(wanted, bound, place, numbers);
+    settle(judged, place, numbers, from, next)
 }
 
-// An instruction line at a place of the text, in a sheet of `forms` forms, where `filled` slots are filled. Its judge is the
-// longest, so it has a reader of its own.
-pub fn take_instr(text: &[u8], at: usize, line: u32, forms: u16, filled: u16) -> LineTaken
-    requires { ⌜ Room (now text) at line ⌝ }
-    ensures { λ r. ⌜ InstrTold forms filled (now (text .entry)) at line r ⌝ }
+// The instruction line where reading stands, in a sheet of `forms` forms, where `filled` slots are filled. Its judge is the longest,
+// and goes by two numbers, so it has a reader of its own.
+pub fn take_instr(text: &[u8], from: Cursor, forms: u16, filled: u16) -> LineTaken
+    requires { ⌜ Room (now text) from ⌝ }
+    ensures { λ r. ⌜ InstrTold forms filled (now (text .entry)) from r ⌝ }
 {
     let LineRead::Line {
         place,
         numbers,
         next,
-    } = lexer::read_line(text, at)
+    } = lexer::read_line(text, from.at)
     else {
         return LineTaken::Refused {
             reason: Reason::Malformed,
-            line,
+            line: from.line,
         };
     };
     let judged = instr_judge::instr_line(forms, filled, place, numbers);
-    settle(judged, place, numbers, next, line)
+    settle(judged, place, numbers, from, next)
 }
 
 // Where a line was refused, reading stops.
@@ -125,9 +146,8 @@ pub fn stopped(taken: LineTaken) -> Progress
         LineTaken::Line {
             place: _,
             numbers: _,
-            at,
-            line,
-        } => Progress::Moved { at, line },
+            next,
+        } => Progress::Moved { to: next },
         LineTaken::Refused { reason, line } => Progress::Refused { reason, line },
     }
 }

@@ -9,30 +9,15 @@ use Rattle.sheet_rules.specs.FormLines.{bodyLine, readInstrs}
 use Rattle.table.specs.Layout.{partAddress, tableEnd}
 use Rattle.table.specs.View.{partIn}
 use Rattle.table.specs.Pool.{OnlyFrom, partEnd}
+use Rattle.line_reader.specs.declared.Cursor.{Cursor}
 use Rattle.line_reader.specs.declared.Progress.{Progress}
 use Rattle.reader_loop.specs.Items.{ItemRead}
-use Rattle.part_reader.specs.declared.PoolProgress.{PoolProgress}
 
--- progress with and without how many instructions are used
-abbrev pub pooled : Progress → ℕ → PoolProgress
-pooled (Progress.Moved at n) used = PoolProgress.Moved at n used
-pooled (Progress.Refused r n) used = PoolProgress.Refused r n
-
-abbrev pub plain : PoolProgress → Progress
-plain (PoolProgress.Moved at n used) = Progress.Moved at n
-plain (PoolProgress.Refused r n) = Progress.Refused r n
-
--- after part j of form f, u instructions are used: those used before it and its own
-pub record PartUsed (w : List ℕ) (f j used u : ℕ) : Type 0 where
-  pub counted : u ≡ used + sizeOfPart (partIn w f j)
-  pub few : u ≤ 1024
-  pub ends : partEnd w f j ≤ u
-
--- part j of form f, read by a reader of parts, after `used` instructions
-pub record PartRead (text : List ℕ) (f j used : ℕ) (part : Reader Part) (at n : ℕ) (w w′ : List ℕ) (p : PoolProgress) : Type 0 where
-  pub read : ItemRead text part (λ x. partIn x f j) (partAddress f j) tableEnd at n w w′ (plain p)
-  pub from : OnlyFrom (partAddress f j) used w w′
-  pub used-then : (at′ n′ u : ℕ) → p ≡ PoolProgress.Moved at′ n′ u → PartUsed w′ f j used u
+-- part j of form f, read by a reader of parts: its instructions are the next of the pool
+pub record PartRead (text : List ℕ) (f j : ℕ) (part : Reader Part) (from : Cursor) (w w′ : List ℕ) (r : Progress) : Type 0 where
+  pub read : ItemRead text part (λ x. partIn x f j) (λ x. from .used + sizeOfPart (partIn x f j)) (partAddress f j) tableEnd from w w′ r
+  pub pool : OnlyFrom (partAddress f j) (from .used) w w′
+  pub ends : (to : Cursor) → r ≡ Progress.Moved to → partEnd w′ f j ≤ to .used
 
 -- the rule's reader of a part, for a field
 unfoldable pub fieldPart : ℕ → Reader Part

@@ -13,7 +13,7 @@ use Rattle.sheet_rules.specs.declared.Reason.the-variants.{Malformed}
 use Rattle.sheet_rules.specs.declared.Verdict.{Verdict}
 use Rattle.sheet_rules.specs.Lines.{linesOf}
 use Rattle.sheet_rules.specs.Sheet.{Sheet, sizeOfForms}
-use Rattle.sheet_rules.specs.Reader.{Read, refused, andThen, give, one}
+use Rattle.sheet_rules.specs.Reader.{refused, Reader, andThen, give, one}
 use Rattle.sheet_rules.specs.FormLines.{bodyLine, readInstrs}
 use Rattle.sheet_rules.specs.Reading.{conclude}
 use Rattle.sheet_rules.proofs.ReaderLaws.{gives-one}
@@ -29,14 +29,15 @@ use Rattle.table.proofs.ViewLaws.{only-refl, only-trans, only-widen, only-set, 
 use Rattle.table.proofs.PoolLaws.{instrs→from, row-kept, form-kept, ends-same, form-ends-kept}
 use Rattle.table.proofs.StoreLaws.{three-only, three-0, three-1, three-2}
 use Rattle.lexer.specs.declared.Numbers.{Numbers}
+use Rattle.line_reader.specs.declared.Cursor.{Cursor}
 use Rattle.line_reader.specs.declared.LineTaken.{LineTaken}
 use Rattle.line_reader.specs.declared.Wanted.{Wanted}
 use Rattle.line_reader.specs.declared.Progress.{Progress}
-use Rattle.line_reader.specs.Told.{Room, number as first, lineRead, LineTold}
-use Rattle.reader_loop.proofs.ThenLaws.{then-stop, line-then, line-stop, line-gives, moved-then, moved-stop}
+use Rattle.line_reader.specs.Told.{readFrom, number as first, lineRead, LineTold, stoppedBy}
+use Rattle.reader_loop.proofs.ThenLaws.{Past, past, then-stop, line-then, line-stop, line-gives, moved-then, moved-stop}
 use Rattle.instr_reader.specs.Reads.{InstrsRead}
 use Rattle.form_reader.specs.Reads.{FormsUsed}
-use Rattle.reader.specs.Reads.{verdictMeans, endRest, instrsRest, mainRest, RestRead}
+use Rattle.reader.specs.Reads.{progressVerdict, verdictMeans, endRest, instrsRest, mainRest, RestRead}
 use Rattle.reader.proofs.EndLaws.{at-end, not-at-end}
 
 -- the sheet's counts, stored: the counts are there, and the rest of the table is as it was
@@ -58,8 +59,8 @@ module _ (w : List ℕ) (rows forms start count : ℕ) (size : workSize ≤ leng
   pub count-3 : cell (countsPut w rows forms start count) mainCountAt ≡ count
   count-3 = getD-set-same (threePut w rowCountAt rows forms start) mainCountAt count 0 (omega (arith, (three-only w rowCountAt rows forms start) .size))
 
-pub counts-size : (w w₁ : List ℕ) (rows forms start count : ℕ) → workSize ≤ length w → w₁ ≡ countsPut w rows forms start count → length w₁ ≡ length w
-counts-size w w₁ rows forms start count size e = ap length e ∙ (counts-only w rows forms start count size) .size
+pub counts-size : (w : List ℕ) {w₁ : List ℕ} (rows forms start count : ℕ) → workSize ≤ length w → w₁ ≡ countsPut w rows forms start count → length w₁ ≡ length w
+counts-size w rows forms start count size e = ap length e ∙ (counts-only w rows forms start count size) .size
 
 -- a buffer that is changed in its counts alone has rows and forms as they were
 module _ (w w₁ : List ℕ) (o : Only 0 4 w w₁) where
@@ -75,127 +76,125 @@ module _ (w w₁ : List ℕ) (o : Only 0 4 w w₁) where
   counts-ends f p e = ends-same w w₁ f p (λ k l u. o .above k (omega arith)) e
 
 -- a refusal is no acceptance
-pub not-accepted : (q : Reason) (l : ℕ) (v : Verdict) → v ≡ Verdict.Refused q l → {A : Type 0} → v ≡ Verdict.Accepted → A
-not-accepted q l v e c = go (sym e ∙ c)
+pub not-accepted : {q : Reason} {l : ℕ} {v : Verdict} → v ≡ Verdict.Refused q l → {A : Type 0} → v ≡ Verdict.Accepted → A
+not-accepted {q} {l} e c = go (sym e ∙ c)
   where
     go : {A : Type 0} → Verdict.Refused q l ≡ Verdict.Accepted → A
     go x = clash (cc)
 
+-- a verdict that passes a refusal on
+pub refused-by : {q : Reason} {l : ℕ} {r : Progress} {v : Verdict} → r ≡ Progress.Refused q l → v ≡ progressVerdict r → v ≡ Verdict.Refused q l
+refused-by e c = c ∙ ap progressVerdict e
+
 -- the rest of a sheet, refused
-pub rest-refused : (q : Reason) (l : ℕ) (s : Sheet) (x : Read Sheet) (v : Verdict) → v ≡ Verdict.Refused q l → x ≡ refused q l → verdictMeans v s ≡ conclude x
-rest-refused q l s x v ev ex = ap (λ (y : Verdict). verdictMeans y s) ev ∙ sym (ap conclude ex)
+pub rest-refused : {q : Reason} {l : ℕ} {text : List ℕ} {rest : Reader Sheet} {from : Cursor} {w w′ : List ℕ} {v : Verdict} → v ≡ Verdict.Refused q l → readFrom text from rest ≡ refused q l
+    → Only 0 tableEnd w w′ → RestRead text rest from w w′ v
+rest-refused {w′ = w′} ev ex o =
+    record { told = ap (λ (y : Verdict). verdictMeans y (sheetIn w′)) ev ∙ sym (ap conclude ex); only = o; placed = not-accepted ev }
 
-module _ (text : List ℕ) (rows forms used at n : ℕ) (w : List ℕ) (ready : Ready rows w) (small : forms ≤ 64) (by : FormsUsed w forms used)
-    (p : LineTaken) (told : LineTold (Wanted.Main used) text at n p) where
-  told-here : lineRead text first p ≡ one (bodyLine Place.Main (sizeOfForms (formsIn w forms))) (linesOf (drop at text)) n
-  told-here = told .told ∙ ap (λ (u : ℕ). one (bodyLine Place.Main u) (linesOf (drop at text)) n) (by .counted)
+module _ {text : List ℕ} {rows forms : ℕ} {from : Cursor} {w : List ℕ} (ready : Ready rows w) (small : forms ≤ 64) (by : FormsUsed w forms (from .used))
+    {p : LineTaken} (told : LineTold Wanted.Main (from .used) text from p) where
+  told-here : lineRead text first p ≡ readFrom text from (one (bodyLine Place.Main (sizeOfForms (formsIn w forms))))
+  told-here = told .told ∙ ap (λ (u : ℕ). readFrom text from (one (bodyLine Place.Main u))) (by .counted)
 
-  pub main-refused : (q : Reason) (l : ℕ) → p ≡ LineTaken.Refused q l → (v : Verdict) → v ≡ Verdict.Refused q l
-      → RestRead text (mainRest (rowsIn w rows) forms (formsIn w forms)) at n w w v
+  pub main-refused : {q : Reason} {l : ℕ} → p ≡ LineTaken.Refused q l → {s : Progress} → s ≡ stoppedBy p → {v : Verdict} → v ≡ progressVerdict s
+      → RestRead text (mainRest (rowsIn w rows) forms (formsIn w forms)) from w w v
   unfolding mainRest
-  main-refused q l e v ev =
-      record {
-        told = rest-refused q l (sheetIn w) _ v ev (line-stop text first _ (instrsRest (rowsIn w rows) forms (formsIn w forms)) p told-here q l e);
-        only = only-refl 0 tableEnd w;
-        placed = not-accepted q l v ev;
-      }
+  main-refused e cs cv =
+      rest-refused (refused-by (cs ∙ ap stoppedBy e) cv) (line-stop text first (instrsRest (rowsIn w rows) forms (formsIn w forms)) told-here e) (only-refl 0 tableEnd w)
 
-  module _ (k : Place) (ns : Numbers) (at′ n′ : ℕ) (e : p ≡ LineTaken.Line k ns at′ n′) where
-    room-for : Body.Room used (ns .n0)
-    room-for = line-gives text first _ p (told .told) k ns at′ n′ e (Body.Room used) (gives-one (Body.Room used) (bodyLine Place.Main used) (bodyLine-room Place.Main used) (linesOf (drop at text)) n)
+  module _ {k : Place} {ns : Numbers} {next : Cursor} (e : p ≡ LineTaken.Line k ns next) where
+    q : Past text from k ns next
+    q = past e (told .onward)
 
-    pub main-whole : used + (ns .n0) ≤ 1024
+    used-by : FormsUsed w forms (next .used)
+    used-by = subst (FormsUsed w forms) (sym (q .pool)) by
+
+    room-for : Body.Room (next .used) (ns .n0)
+    room-for =
+        subst (λ (u : ℕ). Body.Room u (ns .n0)) (sym (q .pool))
+        (line-gives text first (told .told) e (Body.Room (from .used)) (gives-one (Body.Room (from .used)) (bodyLine Place.Main (from .used)) (bodyLine-room Place.Main (from .used)) (linesOf (drop (from .at) text)) (from .line)))
+
+    pub main-whole : next .used + (ns .n0) ≤ 1024
     main-whole = room-for .whole
 
-    module _ (w₁ : List ℕ) (stored : w₁ ≡ countsPut w rows forms used (ns .n0)) (start number : ℕ) (start-is : start ≡ used) (number-is : number ≡ (ns .n0))
-        (w′ : List ℕ) (r : Progress) (m₁ : InstrsRead text start number forms 0 at′ n′ w₁ w′ r) where
-      m : InstrsRead text used (ns .n0) forms 0 at′ n′ w₁ w′ r
-      m =
-          subst (λ (k : ℕ). InstrsRead text used k forms 0 at′ n′ w₁ w′ r) number-is
-          (subst (λ (k : ℕ). InstrsRead text k number forms 0 at′ n′ w₁ w′ r) start-is m₁)
+    module _ {w₁ : List ℕ} (stored : w₁ ≡ countsPut w rows forms (next .used) (ns .n0)) {number : ℕ} (number-is : number ≡ (ns .n0))
+        {w′ : List ℕ} {r : Progress} (m₁ : InstrsRead text number forms 0 next w₁ w′ r) where
+      m : InstrsRead text (ns .n0) forms 0 next w₁ w′ r
+      m = subst (λ (k : ℕ). InstrsRead text k forms 0 next w₁ w′ r) number-is m₁
 
       head-only : Only 0 4 w w₁
-      head-only = subst (Only 0 4 w) (sym stored) (counts-only w rows forms used (ns .n0) (ready .size))
+      head-only = subst (Only 0 4 w) (sym stored) (counts-only w rows forms (next .used) (ns .n0) (ready .size))
 
-      pool-from : OnlyFrom (instrAddress 0) used w₁ w′
-      pool-from = instrs→from used (ns .n0) (omega arith) (room-for .some) (room-for .whole) (m .only)
+      pool-from : OnlyFrom (instrAddress 0) (next .used) w₁ w′
+      pool-from = instrs→from (next .used) (ns .n0) (omega arith) (room-for .some) (room-for .whole) (m .only)
 
       main-only : Only 0 tableEnd w w′
       main-only =
           only-trans (only-widen (omega arith) (omega arith) head-only)
           (only-widen (omega arith) (let a = room-for .some in let b = room-for .whole in omega arith) (m .only))
 
-      told-main : mainRest (rowsIn w rows) forms (formsIn w forms) (linesOf (drop at text)) n
-          ≡ andThen (readInstrs forms 0 (ns .n0) (linesOf (drop at′ text)) n′) (endRest (rowsIn w rows) (formsIn w forms))
+      told-main : readFrom text from (mainRest (rowsIn w rows) forms (formsIn w forms))
+          ≡ andThen (readFrom text next (readInstrs forms 0 (ns .n0))) (endRest (rowsIn w rows) (formsIn w forms))
       unfolding mainRest instrsRest
-      told-main = line-then text first _ (instrsRest (rowsIn w rows) forms (formsIn w forms)) p told-here k ns at′ n′ e
+      told-main = line-then text first (instrsRest (rowsIn w rows) forms (formsIn w forms)) told-here e
 
-      pub instrs-refused : (q : Reason) (l : ℕ) → r ≡ Progress.Refused q l → (v : Verdict) → v ≡ Verdict.Refused q l
-          → RestRead text (mainRest (rowsIn w rows) forms (formsIn w forms)) at n w w′ v
-      instrs-refused q l c v ev =
-          record {
-            told =
-                rest-refused q l (sheetIn w′) _ v ev
-                (told-main ∙ moved-stop text _ (endRest (rowsIn w rows) (formsIn w forms)) r (instrsIn w′ used (ns .n0)) (m .told) q l c);
-            only = main-only;
-            placed = not-accepted q l v ev;
-          }
+      pub instrs-refused : {q : Reason} {l : ℕ} → r ≡ Progress.Refused q l → {v : Verdict} → v ≡ progressVerdict r
+          → RestRead text (mainRest (rowsIn w rows) forms (formsIn w forms)) from w w′ v
+      instrs-refused c cv =
+          rest-refused (refused-by c cv) (told-main ∙ moved-stop text (endRest (rowsIn w rows) (formsIn w forms)) (instrsIn w′ (next .used) (ns .n0)) (m .told) c) main-only
 
       -- the sheet that the table holds
-      cell-kept : (k : ℕ) → k < 16 → cell w′ k ≡ cell (countsPut w rows forms used (ns .n0)) k
+      cell-kept : (k : ℕ) → k < 16 → cell w′ k ≡ cell (countsPut w rows forms (next .used) (ns .n0)) k
       cell-kept k h = pool-from .below k (omega arith) ∙ ap (λ (x : List ℕ). cell x k) stored
 
       rows-there : rowsIn w′ rows ≡ rowsIn w rows
-      rows-there = tab-ext (rowIn w′) (rowIn w) rows (λ k h. row-kept (instrAddress 0) used w₁ w′ pool-from (by .few) (omega arith) k ∙ counts-row w w₁ head-only k)
+      rows-there = tab-ext (rowIn w′) (rowIn w) rows (λ k h. row-kept (instrAddress 0) (next .used) w₁ w′ pool-from (q .room .pool) (omega arith) k ∙ counts-row w w₁ head-only k)
 
       forms-there : formsIn w′ forms ≡ formsIn w forms
       forms-there =
           tab-ext (formIn w′) (formIn w) forms
-          (λ k h. form-kept (instrAddress 0) used w₁ w′ pool-from (by .few) k (omega arith) (counts-ends w w₁ head-only k used (by .ends k h)) ∙ counts-form w w₁ head-only k)
+          (λ k h. form-kept (instrAddress 0) (next .used) w₁ w′ pool-from (q .room .pool) k (omega arith) (counts-ends w w₁ head-only k (next .used) (used-by .ends k h)) ∙ counts-form w w₁ head-only k)
 
-      sheet-there : sheetIn w′ ≡ record { rows = rowsIn w rows; forms = formsIn w forms; main = instrsIn w′ used (ns .n0) }
+      sheet-there : sheetIn w′ ≡ record { rows = rowsIn w rows; forms = formsIn w forms; main = instrsIn w′ (next .used) (ns .n0) }
       unfolding sheetIn
       sheet-there =
           λ x. record {
-            rows = (ap (rowsIn w′) (cell-kept rowCountAt (omega arith) ∙ count-0 w rows forms used (ns .n0) (ready .size)) ∙ rows-there) x;
-            forms = (ap (formsIn w′) (cell-kept formCountAt (omega arith) ∙ count-1 w rows forms used (ns .n0) (ready .size)) ∙ forms-there) x;
+            rows = (ap (rowsIn w′) (cell-kept rowCountAt (omega arith) ∙ count-0 w rows forms (next .used) (ns .n0) (ready .size)) ∙ rows-there) x;
+            forms = (ap (formsIn w′) (cell-kept formCountAt (omega arith) ∙ count-1 w rows forms (next .used) (ns .n0) (ready .size)) ∙ forms-there) x;
             main =
-                instrsIn w′ ((cell-kept mainStartAt (omega arith) ∙ count-2 w rows forms used (ns .n0) (ready .size)) x)
-                ((cell-kept mainCountAt (omega arith) ∙ count-3 w rows forms used (ns .n0) (ready .size)) x);
+                instrsIn w′ ((cell-kept mainStartAt (omega arith) ∙ count-2 w rows forms (next .used) (ns .n0) (ready .size)) x)
+                ((cell-kept mainCountAt (omega arith) ∙ count-3 w rows forms (next .used) (ns .n0) (ready .size)) x);
           }
 
       all-placed : Placed w′
       all-placed =
           record {
             forms = λ f h.
-                form-ends-kept (instrAddress 0) used w₁ w′ pool-from (by .few) f 1024 (by .few) (omega (arith, count))
-                (counts-ends w w₁ head-only f used (by .ends f (omega (arith, count))));
+                form-ends-kept (instrAddress 0) (next .used) w₁ w′ pool-from (q .room .pool) f 1024 (q .room .pool) (omega (arith, count))
+                (counts-ends w w₁ head-only f (next .used) (used-by .ends f (omega (arith, count))));
             main =
-                (let a = cell-kept mainStartAt (omega arith) ∙ count-2 w rows forms used (ns .n0) (ready .size) in
-                let b = cell-kept mainCountAt (omega arith) ∙ count-3 w rows forms used (ns .n0) (ready .size) in
+                (let a = cell-kept mainStartAt (omega arith) ∙ count-2 w rows forms (next .used) (ns .n0) (ready .size) in
+                let b = cell-kept mainCountAt (omega arith) ∙ count-3 w rows forms (next .used) (ns .n0) (ready .size) in
                 omega (arith, room-for .whole));
           }
         where
           count : cell w′ formCountAt ≡ forms
-          count = cell-kept formCountAt (omega arith) ∙ count-1 w rows forms used (ns .n0) (ready .size)
+          count = cell-kept formCountAt (omega arith) ∙ count-1 w rows forms (next .used) (ns .n0) (ready .size)
 
-      module _ (at″ n″ : ℕ) (moved : r ≡ Progress.Moved at″ n″) where
-        told-end : mainRest (rowsIn w rows) forms (formsIn w forms) (linesOf (drop at text)) n ≡ endRest (rowsIn w rows) (formsIn w forms) (instrsIn w′ used (ns .n0)) (linesOf (drop at″ text)) n″
-        told-end = told-main ∙ moved-then text _ (endRest (rowsIn w rows) (formsIn w forms)) r (instrsIn w′ used (ns .n0)) (m .told) at″ n″ moved
+      module _ {to : Cursor} (moved : r ≡ Progress.Moved to) where
+        told-end : readFrom text from (mainRest (rowsIn w rows) forms (formsIn w forms)) ≡ readFrom text to (endRest (rowsIn w rows) (formsIn w forms) (instrsIn w′ (next .used) (ns .n0)))
+        told-end = told-main ∙ moved-then text (endRest (rowsIn w rows) (formsIn w forms)) (instrsIn w′ (next .used) (ns .n0)) (m .told) moved
 
-        pub after-main : at″ < length text → RestRead text (mainRest (rowsIn w rows) forms (formsIn w forms)) at n w w′ (Verdict.Refused Malformed n″)
+        pub after-main : to .at < length text → RestRead text (mainRest (rowsIn w rows) forms (formsIn w forms)) from w w′ (Verdict.Refused Malformed (to .line))
         unfolding endRest
         after-main h =
-            record {
-              told =
-                  rest-refused Malformed n″ (sheetIn w′) _ _ refl
-                  (told-end
-                  ∙ then-stop _ (λ end. give (record { rows = rowsIn w rows; forms = formsIn w forms; main = instrsIn w′ used (ns .n0) })) Malformed n″ (sym (not-at-end text at″ n″ h)));
-              only = main-only;
-              placed = not-accepted Malformed n″ (Verdict.Refused Malformed n″) refl;
-            }
+            rest-refused refl
+            (told-end
+            ∙ then-stop _ (λ end. give (record { rows = rowsIn w rows; forms = formsIn w forms; main = instrsIn w′ (next .used) (ns .n0) })) Malformed (to .line) (sym (not-at-end text (to .at) (to .line) h)))
+            main-only
 
-        pub main-read : length text ≤ at″ → RestRead text (mainRest (rowsIn w rows) forms (formsIn w forms)) at n w w′ Verdict.Accepted
+        pub main-read : length text ≤ to .at → RestRead text (mainRest (rowsIn w rows) forms (formsIn w forms)) from w w′ Verdict.Accepted
         unfolding endRest andThen
         main-read h =
             record {
@@ -203,7 +202,7 @@ module _ (text : List ℕ) (rows forms used at n : ℕ) (w : List ℕ) (ready : 
                   ap (verdictMeans Verdict.Accepted) sheet-there
                   ∙ sym (ap conclude
                   (told-end
-                  ∙ ap (λ x. andThen x (λ end. give (record { rows = rowsIn w rows; forms = formsIn w forms; main = instrsIn w′ used (ns .n0) }))) (at-end text at″ n″ h)));
+                  ∙ ap (λ x. andThen x (λ end. give (record { rows = rowsIn w rows; forms = formsIn w forms; main = instrsIn w′ (next .used) (ns .n0) }))) (at-end text (to .at) (to .line) h)));
               only = main-only;
               placed = λ e. all-placed;
             }

@@ -16,7 +16,7 @@ use Rattle.sheet_rules.specs.declared.Verdict.{Verdict}
 use Rattle.sheet_rules.specs.Limits.{textLimit}
 use Rattle.sheet_rules.specs.Lines.{Line, linesOf}
 use Rattle.sheet_rules.specs.Sheet.{Row}
-use Rattle.sheet_rules.specs.Reader.{got, one, many, countLine, andThen}
+use Rattle.sheet_rules.specs.Reader.{one, many, countLine, andThen}
 use Rattle.sheet_rules.specs.RowLines.{readRow}
 use Rattle.sheet_rules.specs.FormLines.{readForm}
 use Rattle.sheet_rules.specs.WellFormed.{WellFormed}
@@ -31,54 +31,43 @@ use Rattle.table.specs.Ready.{Ready}
 use Rattle.table.proofs.ViewLaws.{only-refl, only-trans, only-widen, row-same}
 use Rattle.table.proofs.RowLaws.{rows-ready, ready-kept}
 use Rattle.lexer.specs.declared.Numbers.{Numbers}
+use Rattle.line_reader.specs.declared.Cursor.{Cursor}
 use Rattle.line_reader.specs.declared.LineTaken.{LineTaken}
 use Rattle.line_reader.specs.declared.Wanted.{Wanted}
 use Rattle.line_reader.specs.declared.Progress.{Progress}
-use Rattle.line_reader.specs.Told.{Room, number, LineTold, readTold, Advanced}
-use Rattle.reader_loop.proofs.LoopLaws.{advanced-room}
-use Rattle.reader_loop.proofs.ThenLaws.{line-then, line-stop, line-gives, moved-then, moved-stop}
+use Rattle.line_reader.specs.Told.{Room, readFrom, gotAt, number, LineTold, readTold, stoppedBy}
+use Rattle.reader_loop.proofs.LoopLaws.{moved-on}
+use Rattle.reader_loop.proofs.ThenLaws.{past, line-then, line-stop, line-gives, moved-then, moved-stop}
 use Rattle.row_reader.specs.Reads.{RowsRead}
-use Rattle.part_reader.specs.declared.PoolProgress.{PoolProgress}
-use Rattle.part_reader.specs.Reads.{plain}
 use Rattle.form_reader.specs.Reads.{FormsUsed, FormsRead}
-use Rattle.reader.specs.Reads.{endRest, instrsRest, mainRest, formsRest, rowsRest, RestRead, SheetRead}
-use Rattle.reader.proofs.MainLaws.{not-accepted, rest-refused}
+use Rattle.reader.specs.Reads.{progressVerdict, textStart, endRest, instrsRest, mainRest, formsRest, rowsRest, RestRead, SheetRead}
+use Rattle.reader.proofs.MainLaws.{not-accepted, refused-by, rest-refused}
 
 -- FORMS AND MAIN
 
-module _ (text : List ℕ) (rows at n : ℕ) (w : List ℕ) (ready : Ready rows w)
-    (p : LineTaken) (told : LineTold Wanted.Forms text at n p) where
-  pub forms-line-refused : (q : Reason) (l : ℕ) → p ≡ LineTaken.Refused q l → (v : Verdict) → v ≡ Verdict.Refused q l
-      → RestRead text (rowsRest (rowsIn w rows)) at n w w v
+module _ {text : List ℕ} {rows : ℕ} {from : Cursor} {w : List ℕ} (ready : Ready rows w) {b : ℕ} {p : LineTaken} (told : LineTold Wanted.Forms b text from p) where
+  pub forms-line-refused : {q : Reason} {l : ℕ} → p ≡ LineTaken.Refused q l → {s : Progress} → s ≡ stoppedBy p → {v : Verdict} → v ≡ progressVerdict s
+      → RestRead text (rowsRest (rowsIn w rows)) from w w v
   unfolding rowsRest
-  forms-line-refused q l e v ev =
-      record { told = rest-refused q l (sheetIn w) _ v ev (line-stop text number _ (formsRest (rowsIn w rows)) p (told .told) q l e); only = only-refl 0 tableEnd w; placed = not-accepted q l v ev }
+  forms-line-refused e cs cv = rest-refused (refused-by (cs ∙ ap stoppedBy e) cv) (line-stop text number (formsRest (rowsIn w rows)) (told .told) e) (only-refl 0 tableEnd w)
 
-  module _ (k : Place) (ns : Numbers) (at′ n′ : ℕ) (e : p ≡ LineTaken.Line k ns at′ n′) where
+  module _ {k : Place} {ns : Numbers} {next : Cursor} (e : p ≡ LineTaken.Line k ns next) where
     pub forms-few : (ns .n0) ≤ 64
     forms-few =
-        (line-gives text number _ p (told .told) k ns at′ n′ e (λ k. (0 ≤ k) × (k ≤ 64))
-        (gives-one (λ k. (0 ≤ k) × (k ≤ 64)) (countLine Place.Forms 0 64) (countLine-within Place.Forms 0 64) (linesOf (drop at text)) n)) .1
+        (line-gives text number (told .told) e (λ k. (0 ≤ k) × (k ≤ 64))
+        (gives-one (λ k. (0 ≤ k) × (k ≤ 64)) (countLine Place.Forms 0 64) (countLine-within Place.Forms 0 64) (linesOf (drop (from .at) text)) (from .line))) .1
 
-    told-forms : rowsRest (rowsIn w rows) (linesOf (drop at text)) n
-        ≡ andThen (many (ns .n0) (readForm (rowsIn w rows) (ns .n0)) [] (linesOf (drop at′ text)) n′) (mainRest (rowsIn w rows) (ns .n0))
+    told-forms : readFrom text from (rowsRest (rowsIn w rows)) ≡ andThen (readFrom text next (many (ns .n0) (readForm (rowsIn w rows) (ns .n0)) [])) (mainRest (rowsIn w rows) (ns .n0))
     unfolding rowsRest formsRest
-    told-forms = line-then text number _ (formsRest (rowsIn w rows)) p (told .told) k ns at′ n′ e
+    told-forms = line-then text number (formsRest (rowsIn w rows)) (told .told) e
 
-    module _ (w₁ : List ℕ) (r : PoolProgress) (m : FormsRead text rows (ns .n0) at′ n′ w w₁ r) where
+    module _ {w₁ : List ℕ} {r : Progress} (m : FormsRead text rows (ns .n0) next w w₁ r) where
       forms-only : Only 0 tableEnd w w₁
       forms-only = only-widen (omega arith) (omega arith) (m .read .only)
 
-      pub forms-refused : (q : Reason) (l : ℕ) → r ≡ PoolProgress.Refused q l → (v : Verdict) → v ≡ Verdict.Refused q l
-          → RestRead text (rowsRest (rowsIn w rows)) at n w w₁ v
-      forms-refused q l c v ev =
-          record {
-            told =
-                rest-refused q l (sheetIn w₁) _ v ev
-                (told-forms ∙ moved-stop text _ (mainRest (rowsIn w rows) (ns .n0)) (plain r) (formsIn w₁ (ns .n0)) (m .read .told) q l (ap plain c));
-            only = forms-only;
-            placed = not-accepted q l v ev;
-          }
+      pub forms-refused : {q : Reason} {l : ℕ} → r ≡ Progress.Refused q l → {v : Verdict} → v ≡ progressVerdict r → RestRead text (rowsRest (rowsIn w rows)) from w w₁ v
+      forms-refused c cv =
+          rest-refused (refused-by c cv) (told-forms ∙ moved-stop text (mainRest (rowsIn w rows) (ns .n0)) (formsIn w₁ (ns .n0)) (m .read .told) c) forms-only
 
       pub forms-ready : Ready rows w₁
       forms-ready = ready-kept rows (formAddress 0) tableEnd w w₁ (omega arith) (m .read .only) ready
@@ -86,20 +75,17 @@ module _ (text : List ℕ) (rows at n : ℕ) (w : List ℕ) (ready : Ready rows 
       rows-same : rowsIn w₁ rows ≡ rowsIn w rows
       rows-same = tab-ext (rowIn w₁) (rowIn w) rows (λ i h. row-same w w₁ i (λ k l u. m .read .only .below k (omega arith)))
 
-      module _ (at″ n″ u : ℕ) (moved : r ≡ PoolProgress.Moved at″ n″ u) where
-        pub forms-room : Room text at″ n″
-        forms-room = advanced-room (subst (Advanced text at′) (ap plain moved) (m .read .advanced))
+      module _ {to : Cursor} (moved : r ≡ Progress.Moved to) where
+        pub forms-used : FormsUsed w₁ (ns .n0) (to .used)
+        forms-used = record { counted = (moved-on moved (m .read .advanced)) .pool; ends = m .ends to moved }
 
-        pub forms-used : FormsUsed w₁ (ns .n0) u
-        forms-used = m .used-then at″ n″ u moved
-
-        pub forms-main : (w′ : List ℕ) (v : Verdict) → RestRead text (mainRest (rowsIn w₁ rows) (ns .n0) (formsIn w₁ (ns .n0))) at″ n″ w₁ w′ v → RestRead text (rowsRest (rowsIn w rows)) at n w w′ v
-        forms-main w′ v k =
+        pub forms-main : {w′ : List ℕ} {v : Verdict} → RestRead text (mainRest (rowsIn w₁ rows) (ns .n0) (formsIn w₁ (ns .n0))) to w₁ w′ v → RestRead text (rowsRest (rowsIn w rows)) from w w′ v
+        forms-main k =
             record {
               told =
                   k .told
-                  ∙ ap (λ (rs : List Row). conclude (mainRest rs (ns .n0) (formsIn w₁ (ns .n0)) (linesOf (drop at″ text)) n″)) rows-same
-                  ∙ sym (ap conclude (told-forms ∙ moved-then text _ (mainRest (rowsIn w rows) (ns .n0)) (plain r) (formsIn w₁ (ns .n0)) (m .read .told) at″ n″ (ap plain moved)));
+                  ∙ ap (λ (rs : List Row). conclude (readFrom text to (mainRest rs (ns .n0) (formsIn w₁ (ns .n0))))) rows-same
+                  ∙ sym (ap conclude (told-forms ∙ moved-then text (mainRest (rowsIn w rows) (ns .n0)) (formsIn w₁ (ns .n0)) (m .read .told) moved));
               only = only-trans forms-only (k .only);
               placed = k .placed;
             }
@@ -111,70 +97,56 @@ sheet-rest : (ls : List Line) (n : ℕ)
 unfolding readSheet rowsRest formsRest mainRest instrsRest endRest
 sheet-rest ls n = refl
 
-module _ (text : List ℕ) (w : List ℕ) (size : workSize ≤ length w)
-    (p : LineTaken) (told : LineTold Wanted.Types text 0 1 p) where
-  pub types-refused : (q : Reason) (l : ℕ) → p ≡ LineTaken.Refused q l → (v : Verdict) → v ≡ Verdict.Refused q l → RestRead text readSheet 0 1 w w v
-  types-refused q l e v ev =
-      record {
-        told =
-            rest-refused q l (sheetIn w) _ v ev
-            (sheet-rest (linesOf (drop 0 text)) 1 ∙ line-stop text number _ (λ t ls n. andThen (many t readRow [] ls n) rowsRest) p (told .told) q l e);
-        only = only-refl 0 tableEnd w;
-        placed = not-accepted q l v ev;
-      }
+module _ {text : List ℕ} (w : List ℕ) (size : workSize ≤ length w) {b : ℕ} {p : LineTaken} (told : LineTold Wanted.Types b text textStart p) where
+  pub types-refused : {q : Reason} {l : ℕ} → p ≡ LineTaken.Refused q l → {s : Progress} → s ≡ stoppedBy p → {v : Verdict} → v ≡ progressVerdict s → RestRead text readSheet textStart w w v
+  types-refused e cs cv =
+      rest-refused (refused-by (cs ∙ ap stoppedBy e) cv)
+      (sheet-rest (linesOf (drop 0 text)) 1 ∙ line-stop text number (λ t ls n. andThen (many t readRow [] ls n) rowsRest) (told .told) e) (only-refl 0 tableEnd w)
 
-  module _ (k : Place) (ns : Numbers) (at′ n′ : ℕ) (e : p ≡ LineTaken.Line k ns at′ n′) where
+  module _ {k : Place} {ns : Numbers} {next : Cursor} (e : p ≡ LineTaken.Line k ns next) where
     pub types-few : (ns .n0) ≤ 64
     types-few =
-        (line-gives text number _ p (told .told) k ns at′ n′ e (λ k. (1 ≤ k) × (k ≤ 64))
+        (line-gives text number (told .told) e (λ k. (1 ≤ k) × (k ≤ 64))
         (gives-one (λ k. (1 ≤ k) × (k ≤ 64)) (countLine Place.Types 1 64) (countLine-within Place.Types 1 64) (linesOf (drop 0 text)) 1)) .1
 
-    told-rows : readSheet (linesOf (drop 0 text)) 1 ≡ andThen (many (ns .n0) readRow [] (linesOf (drop at′ text)) n′) rowsRest
-    told-rows = sheet-rest (linesOf (drop 0 text)) 1 ∙ line-then text number _ (λ t ls n. andThen (many t readRow [] ls n) rowsRest) p (told .told) k ns at′ n′ e
+    told-rows : readFrom text textStart readSheet ≡ andThen (readFrom text next (many (ns .n0) readRow [])) rowsRest
+    told-rows = sheet-rest (linesOf (drop 0 text)) 1 ∙ line-then text number (λ t ls n. andThen (many t readRow [] ls n) rowsRest) (told .told) e
 
-    module _ (count : ℕ) (count-is : count ≡ (ns .n0)) (w₁ : List ℕ) (r : Progress) (m₁ : RowsRead text count at′ n′ w w₁ r) where
-      m : RowsRead text (ns .n0) at′ n′ w w₁ r
-      m = subst (λ (k : ℕ). RowsRead text k at′ n′ w w₁ r) count-is m₁
+    module _ {count : ℕ} (count-is : count ≡ (ns .n0)) {w₁ : List ℕ} {r : Progress} (m₁ : RowsRead text count next w w₁ r) where
+      m : RowsRead text (ns .n0) next w w₁ r
+      m = subst (λ (k : ℕ). RowsRead text k next w w₁ r) count-is m₁
 
       rows-only : Only 0 tableEnd w w₁
       rows-only = only-widen (omega arith) (omega arith) (m .only)
 
-      pub rows-refused : (q : Reason) (l : ℕ) → r ≡ Progress.Refused q l → (v : Verdict) → v ≡ Verdict.Refused q l → RestRead text readSheet 0 1 w w₁ v
-      rows-refused q l c v ev =
-          record {
-            told = rest-refused q l (sheetIn w₁) _ v ev (told-rows ∙ moved-stop text _ rowsRest r (rowsIn w₁ (ns .n0)) (m .told) q l c);
-            only = rows-only;
-            placed = not-accepted q l v ev;
-          }
+      pub rows-refused : {q : Reason} {l : ℕ} → r ≡ Progress.Refused q l → {v : Verdict} → v ≡ progressVerdict r → RestRead text readSheet textStart w w₁ v
+      rows-refused c cv = rest-refused (refused-by c cv) (told-rows ∙ moved-stop text rowsRest (rowsIn w₁ (ns .n0)) (m .told) c) rows-only
 
-      module _ (at″ n″ : ℕ) (moved : r ≡ Progress.Moved at″ n″) where
-        pub rows-room : Room text at″ n″
-        rows-room = advanced-room (subst (Advanced text at′) moved (m .advanced))
+      module _ {to : Cursor} (moved : r ≡ Progress.Moved to) where
+        pub rows-moved : Room text to × (to .used ≡ 0)
+        rows-moved = let x = moved-on moved (m .advanced) in (x .room, x .pool ∙ (past e (told .onward)) .pool)
 
         well-formed : WellFormedRows (rowsIn w₁ (ns .n0))
         well-formed =
             go (rowsIn w₁ (ns .n0))
             (subst (Gives (λ rows. WellFormedRows rows × (length rows ≡ (ns .n0)))) (sym (ap (λ (x : Progress). readTold text x (rowsIn w₁ (ns .n0))) (sym moved) ∙ m .told))
-            (readRows-wellFormed (ns .n0) (linesOf (drop at′ text)) n′))
+            (readRows-wellFormed (ns .n0) (linesOf (drop (next .at) text)) (next .line)))
           where
-            go : (rows : List Row) → Gives (λ rows. WellFormedRows rows × (length rows ≡ (ns .n0))) (got rows (linesOf (drop at″ text)) n″) → WellFormedRows rows
+            go : (rows : List Row) → Gives (λ rows. WellFormedRows rows × (length rows ≡ (ns .n0))) (gotAt text to rows) → WellFormedRows rows
             go rows (its-got x) = x .0
 
         pub rows-then-ready : Ready (ns .n0) w₁
         rows-then-ready = rows-ready (ns .n0) w₁ (omega (arith, m .only .size)) types-few well-formed
 
-        pub rows-forms : (w′ : List ℕ) (v : Verdict) → RestRead text (rowsRest (rowsIn w₁ (ns .n0))) at″ n″ w₁ w′ v → RestRead text readSheet 0 1 w w′ v
-        rows-forms w′ v k =
+        pub rows-forms : {w′ : List ℕ} {v : Verdict} → RestRead text (rowsRest (rowsIn w₁ (ns .n0))) to w₁ w′ v → RestRead text readSheet textStart w w′ v
+        rows-forms k =
             record {
-              told = k .told ∙ sym (ap conclude (told-rows ∙ moved-then text _ rowsRest r (rowsIn w₁ (ns .n0)) (m .told) at″ n″ moved));
+              told = k .told ∙ sym (ap conclude (told-rows ∙ moved-then text rowsRest (rowsIn w₁ (ns .n0)) (m .told) moved));
               only = only-trans rows-only (k .only);
               placed = k .placed;
             }
 
 -- THE PROMISE
-
-pub start-room : (text : List ℕ) → length text ≤ 65535 → Room text 0 1
-start-room text h = record { small = h; inside = omega arith; lines = omega arith }
 
 module _ (text w : List ℕ) where
   pub sheet-short : length w < workSize → SheetRead text w w (Verdict.Refused BufferTooShort 0)
@@ -183,7 +155,7 @@ module _ (text w : List ℕ) where
         told = sym (ap (λ (b : Bool). cond b (meaning text) (unreadable BufferTooShort 0)) (lt-leb workSize (length w) h));
         only = only-refl 0 tableEnd w;
         short = λ e. refl;
-        placed = not-accepted BufferTooShort 0 (Verdict.Refused BufferTooShort 0) refl;
+        placed = not-accepted refl;
       }
 
   module _ (h : workSize ≤ length w) where
@@ -199,12 +171,12 @@ module _ (text w : List ℕ) where
               ∙ sym (ap (λ (b : Bool). cond b (meaning text) (unreadable BufferTooShort 0)) whole);
           only = only-refl 0 tableEnd w;
           short = λ e. refl;
-          placed = not-accepted TextTooLong 0 (Verdict.Refused TextTooLong 0) refl;
+          placed = not-accepted refl;
         }
 
-    pub sheet-read : length text ≤ 65535 → (w′ : List ℕ) (v : Verdict) → RestRead text readSheet 0 1 w w′ v → SheetRead text w w′ v
+    pub sheet-read : length text ≤ 65535 → {w′ : List ℕ} {v : Verdict} → RestRead text readSheet textStart w w′ v → SheetRead text w w′ v
     unfolding meaning drop
-    sheet-read l w′ v k =
+    sheet-read l k =
         record {
           told =
               k .told

@@ -4,12 +4,11 @@ use mathlib.Core.Path.{_≡_}
 use mathlib.Core.Bool.{false, cond}
 use mathlib.Core.List.{List, []}
 use lib.Dec.{leb}
-use lib.ListN.{length, drop}
+use lib.ListN.{length}
 use Rattle.sheet_rules.specs.declared.Place.{Place}
 use Rattle.sheet_rules.specs.declared.Reason.the-variants.{BufferTooShort}
 use Rattle.sheet_rules.specs.declared.Verdict.{Verdict}
 use Rattle.sheet_rules.specs.Limits.{formLimit}
-use Rattle.sheet_rules.specs.Lines.{linesOf}
 use Rattle.sheet_rules.specs.Sheet.{Row, Instr, Form, Sheet, sizeOfForms}
 use Rattle.sheet_rules.specs.Reader.{Reader, _>>=_, give, one, many, countLine}
 use Rattle.sheet_rules.specs.FormLines.{bodyLine, readInstrs, readForm}
@@ -18,17 +17,18 @@ use Rattle.table.specs.Layout.{tableEnd, workSize}
 use Rattle.table.specs.View.{sheetIn}
 use Rattle.table.specs.Only.{Only}
 use Rattle.table.specs.Pool.{Placed}
+use Rattle.line_reader.specs.declared.Cursor.{Cursor}
 use Rattle.line_reader.specs.declared.Progress.{Progress}
-use Rattle.part_reader.specs.declared.PoolProgress.{PoolProgress}
+use Rattle.line_reader.specs.Told.{readFrom}
 
 -- some lines' answer as a verdict
 abbrev pub progressVerdict : Progress → Verdict
-progressVerdict (Progress.Moved at n) = Verdict.Accepted
+progressVerdict (Progress.Moved c) = Verdict.Accepted
 progressVerdict (Progress.Refused r n) = Verdict.Refused r n
 
-abbrev pub poolVerdict : PoolProgress → Verdict
-poolVerdict (PoolProgress.Moved at n used) = Verdict.Accepted
-poolVerdict (PoolProgress.Refused r n) = Verdict.Refused r n
+-- where reading a text begins
+abbrev pub textStart : Cursor
+textStart = record { at = 0; line = 1; used = 0 }
 
 -- what a verdict means, with the sheet that reading left
 abbrev pub verdictMeans : Verdict → Sheet → Meaning
@@ -51,9 +51,9 @@ formsRest rows f = many f (readForm rows f) [] >>= mainRest rows f
 unfoldable pub rowsRest : List Row → Reader Sheet
 rowsRest rows = one (countLine Place.Forms 0 formLimit) >>= formsRest rows
 
--- the rest of a sheet, read from a place of the text on: the verdict and the table tell what the rule says of it
-pub record RestRead (text : List ℕ) (rest : Reader Sheet) (at n : ℕ) (w w′ : List ℕ) (v : Verdict) : Type 0 where
-  pub told : verdictMeans v (sheetIn w′) ≡ conclude (rest (linesOf (drop at text)) n)
+-- the rest of a sheet, read from where reading stands: the verdict and the table tell what the rule says of it
+pub record RestRead (text : List ℕ) (rest : Reader Sheet) (from : Cursor) (w w′ : List ℕ) (v : Verdict) : Type 0 where
+  pub told : verdictMeans v (sheetIn w′) ≡ conclude (readFrom text from rest)
   pub only : Only 0 tableEnd w w′
   pub placed : v ≡ Verdict.Accepted → Placed w′
 

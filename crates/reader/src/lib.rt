@@ -9,11 +9,11 @@ ghost use Rattle.table.specs.Layout.{workSize};
 ghost use Rattle.table.specs.Ready.{Ready};
 ghost use Rattle.table.specs.View.{rowsIn, formsIn};
 ghost use Rattle.form_reader.specs.Reads.{FormsUsed};
-ghost use Rattle.reader.specs.Reads.{progressVerdict, poolVerdict, mainRest, rowsRest, RestRead, SheetRead};
+ghost use Rattle.reader.specs.Reads.{progressVerdict, textStart, mainRest, rowsRest, RestRead, SheetRead};
+use line_reader::Cursor;
 use line_reader::LineTaken;
 use line_reader::Progress;
 use line_reader::Wanted;
-use part_reader::PoolProgress;
 use sheet_rules::Reason;
 use sheet_rules::Verdict;
 use table::rows::wide;
@@ -28,107 +28,82 @@ fn progress_verdict(read: Progress) -> Verdict
     }
 }
 
-// The verdict of the forms.
-fn pool_verdict(read: PoolProgress) -> Verdict
-    ensures { λ r. ⌜ r ≡ poolVerdict read ⌝ }
+// Main, to the text's end, in a sheet of `rows` rows and of `forms` forms.
+fn read_main(text: &[u8], work: &mut [u16], rows: u16, forms: u16, from: Cursor) -> Verdict
+    requires { ⌜ Room (now text) from × (forms ≤ 64) × Ready rows (now work) × FormsUsed (now work) forms (from .used) ⌝ }
+    ensures { λ r. ⌜ RestRead (now (text .entry)) (mainRest (rowsIn (now (work .entry)) rows) forms (formsIn (now (work .entry)) forms)) from (now (work .entry)) (now (work .exit)) r ⌝ }
 {
-    match read {
-        PoolProgress::Moved { .. } => Verdict::Accepted,
-        PoolProgress::Refused { reason, line } => Verdict::Refused { reason, line },
-    }
-}
-
-// Main, from a place of the text to its end, in a sheet of `rows` rows and of `forms` forms, whose bodies use `used` instructions.
-fn read_main(
-    text: &[u8],
-    work: &mut [u16],
-    rows: u16,
-    forms: u16,
-    used: u16,
-    from: usize,
-    first: u32,
-) -> Verdict
-    requires { ⌜ Room (now text) from first × (forms ≤ 64) × Ready rows (now work) × FormsUsed (now work) forms used ⌝ }
-    ensures { λ r. ⌜ RestRead (now (text .entry)) (mainRest (rowsIn (now (work .entry)) rows) forms (formsIn (now (work .entry)) forms)) from first (now (work .entry)) (now (work .exit)) r ⌝ }
-{
-    let head = line_reader::take_line(text, from, first, Wanted::Main { used });
+    let head = line_reader::take_line(text, from, Wanted::Main, from.used as u32);
     let LineTaken::Line {
         place: _,
         numbers,
-        at,
-        line,
+        next,
     } = head
     else {
         return progress_verdict(line_reader::stopped(head));
     };
     let count = numbers.n0;
-    table::stores::put_counts(work, rows, forms, used, count);
-    let body = instr_reader::read_instrs(text, work, wide(used), wide(count), forms, 0, at, line);
-    let Progress::Moved {
-        at: end,
-        line: last,
-    } = body
-    else {
+    table::stores::put_counts(work, rows, forms, next.used, count);
+    let body = instr_reader::read_instrs(text, work, wide(count), forms, 0, next);
+    let Progress::Moved { to } = body else {
         return progress_verdict(body);
     };
-    if end < text.len() {
+    if to.at < text.len() {
         return Verdict::Refused {
             reason: Reason::Malformed,
-            line: last,
+            line: to.line,
         };
     }
     Verdict::Accepted
 }
 
 // Forms and main, from the `forms` line on, in a sheet of `rows` rows.
-fn read_after_rows(text: &[u8], work: &mut [u16], rows: u16, from: usize, first: u32) -> Verdict
-    requires { ⌜ Room (now text) from first × Ready rows (now work) ⌝ }
-    ensures { λ r. ⌜ RestRead (now (text .entry)) (rowsRest (rowsIn (now (work .entry)) rows)) from first (now (work .entry)) (now (work .exit)) r ⌝ }
+fn read_after_rows(text: &[u8], work: &mut [u16], rows: u16, from: Cursor) -> Verdict
+    requires { ⌜ Room (now text) from × (from .used ≡ 0) × Ready rows (now work) ⌝ }
+    ensures { λ r. ⌜ RestRead (now (text .entry)) (rowsRest (rowsIn (now (work .entry)) rows)) from (now (work .entry)) (now (work .exit)) r ⌝ }
 {
-    let head = line_reader::take_line(text, from, first, Wanted::Forms);
+    let head = line_reader::take_line(text, from, Wanted::Forms, 0);
     let LineTaken::Line {
         place: _,
         numbers,
-        at,
-        line,
+        next,
     } = head
     else {
         return progress_verdict(line_reader::stopped(head));
     };
     let forms = numbers.n0;
-    let read = form_reader::read_forms(text, work, rows, forms, at, line);
-    let PoolProgress::Moved {
-        at: next,
-        line: n,
-        used,
-    } = read
-    else {
-        return pool_verdict(read);
+    let read = form_reader::read_forms(text, work, rows, forms, next);
+    let Progress::Moved { to } = read else {
+        return progress_verdict(read);
     };
-    read_main(text, work, rows, forms, used, next, n)
+    read_main(text, work, rows, forms, to)
 }
 
 // A whole sheet, from its `types` line on.
 fn read_from_types(text: &[u8], work: &mut [u16]) -> Verdict
     requires { ⌜ (length (now text) ≤ 65535) × (workSize ≤ length (now work)) ⌝ }
-    ensures { λ r. ⌜ RestRead (now (text .entry)) readSheet 0 1 (now (work .entry)) (now (work .exit)) r ⌝ }
+    ensures { λ r. ⌜ RestRead (now (text .entry)) readSheet textStart (now (work .entry)) (now (work .exit)) r ⌝ }
 {
-    let head = line_reader::take_line(text, 0, 1, Wanted::Types);
+    let from = Cursor {
+        at: 0,
+        line: 1,
+        used: 0,
+    };
+    let head = line_reader::take_line(text, from, Wanted::Types, 0);
     let LineTaken::Line {
         place: _,
         numbers,
-        at,
-        line,
+        next,
     } = head
     else {
         return progress_verdict(line_reader::stopped(head));
     };
     let rows = numbers.n0;
-    let read = row_reader::read_rows(text, work, wide(rows), at, line);
-    let Progress::Moved { at: next, line: n } = read else {
+    let read = row_reader::read_rows(text, work, wide(rows), next);
+    let Progress::Moved { to } = read else {
         return progress_verdict(read);
     };
-    read_after_rows(text, work, rows, next, n)
+    read_after_rows(text, work, rows, to)
 }
 
 // Reads a sheet into the table: accepted so far, or refused with a reason from 1 to 7.

@@ -1,22 +1,32 @@
 -- What reading an item, or many, into the work buffer ensures: what the answer and the buffer tell is what the rule's reader
--- gives; the buffer has changed in its part alone; and the place is further on. Stands on reading and on the table.
+-- gives; the buffer has changed in its part alone; and reading stands further on. Stands on reading and on the table.
 use Prim.Native.Nat.{ℕ}
 use mathlib.Core.Path.{_≡_}
 use mathlib.Core.List.{List, []}
-use lib.ListN.{drop}
 use Rattle.lists.specs.Tab.{tab}
-use Rattle.sheet_rules.specs.Lines.{linesOf}
 use Rattle.sheet_rules.specs.Reader.{Reader, many}
 use Rattle.table.specs.Only.{Only}
+use Rattle.line_reader.specs.declared.Cursor.{Cursor}
 use Rattle.line_reader.specs.declared.Progress.{Progress}
-use Rattle.line_reader.specs.Told.{readTold, Advanced}
+use Rattle.line_reader.specs.Told.{readFrom, readTold, Advanced}
 
--- one item: `item` reads it, and `value` is what the buffer then holds of it; only numbers from lo to hi have changed
-pub record ItemRead {A : Type 0} (text : List ℕ) (item : Reader A) (value : List ℕ → A) (lo hi at n : ℕ) (w w′ : List ℕ) (r : Progress) : Type 0 where
-  pub told : readTold text r (value w′) ≡ item (linesOf (drop at text)) n
+-- one item: `item` reads it, `value` is what the buffer then holds of it, and `used` how many instructions were then read; only numbers
+-- from lo to hi have changed
+pub record ItemRead {A : Type 0} (text : List ℕ) (item : Reader A) (value : List ℕ → A) (used : List ℕ → ℕ) (lo hi : ℕ) (from : Cursor) (w w′ : List ℕ) (r : Progress) : Type 0 where
+  pub told : readTold text r (value w′) ≡ readFrom text from item
   pub only : Only lo hi w w′
-  pub advanced : Advanced text at r
+  pub advanced : Advanced text from (used w′) r
 
--- many items, each read with those before it in hand: `value w j` is item j
-abbrev pub ItemsRead : {A : Type 0} → List ℕ → (List A → Reader A) → (List ℕ → ℕ → A) → (lo hi count at n : ℕ) → (w w′ : List ℕ) → Progress → Type 0
-ItemsRead text item value lo hi count at n w w′ r = ItemRead text (many count item []) (λ x. tab (value x) count) lo hi at n w w′ r
+-- items of a list: the rule's reader of one, with those before it in hand; what the buffer holds of item j; how many instructions were
+-- read once j items are in the buffer; and the part of the buffer that they have
+pub record Items (A : Type 0) : Type 0 where
+  pub item : List A → Reader A
+  pub value : List ℕ → ℕ → A
+  pub used : List ℕ → ℕ → ℕ
+  pub lo : ℕ
+  pub hi : ℕ
+
+-- many items, read
+abbrev pub ItemsRead : {A : Type 0} → List ℕ → Items A → (count : ℕ) → Cursor → (w w′ : List ℕ) → Progress → Type 0
+ItemsRead text x count from w w′ r =
+    ItemRead text (many count (x .item) []) (λ v. tab ((x .value) v) count) (λ v. (x .used) v count) (x .lo) (x .hi) from w w′ r

@@ -12,6 +12,7 @@ use Rattle.lists.proofs.TabLaws.{tab-suc, tab-ext, length-tab}
 use Rattle.lists.proofs.Tests.{clash}
 use Rattle.sheet_rules.specs.declared.Place.{Place}
 use Rattle.sheet_rules.specs.declared.Member.{Member}
+use Rattle.sheet_rules.specs.declared.MemberKind.{MemberKind}
 use Rattle.sheet_rules.specs.declared.Reason.{Reason}
 use Rattle.sheet_rules.specs.declared.Reason.the-variants.{DuplicateRow, NotDefined}
 use Rattle.sheet_rules.specs.Lines.{Line, linesOf}
@@ -20,15 +21,18 @@ use Rattle.sheet_rules.specs.Reader.{Judged, good, bad, demand, got, refused, s
 use Rattle.sheet_rules.specs.RowLines.{kindOf, twin, memberOf, mentionsBelow}
 use Rattle.lexer.specs.declared.Numbers.{Numbers}
 use Rattle.lexer.specs.Scan.{listOf}
-use Rattle.line_judges.specs.Told.{memberRest}
+use Rattle.line_judges.specs.Told.{MemberShaped, memberRest}
 use Rattle.line_judges.proofs.JudgeLaws.{demand-no, demand-yes}
-use Rattle.table.specs.Layout.{rowAddress, memberAddress}
+use Rattle.table.specs.Layout.{rowAddress, memberAddress, workSize}
 use Rattle.table.specs.View.{cell, memberFrom, memberIn, membersIn, rowIn, rowsIn}
 use Rattle.table.specs.Only.{Only}
 use Rattle.table.proofs.ViewLaws.{only-widen, row-other}
+use Rattle.table.specs.Stores.{memberPut}
 use Rattle.row_store.specs.Stored.{Stored}
+use Rattle.row_store.proofs.StoreLaws.{stored-member}
+use Rattle.line_reader.specs.declared.Cursor.{Cursor}
 use Rattle.line_reader.specs.declared.Progress.{Progress}
-use Rattle.row_reader.specs.Reads.{headingIn, Kept}
+use Rattle.row_reader.specs.Reads.{headingIn, InRow, Kept}
 
 -- members before and after the one that changed
 module _ (w w′ : List ℕ) (i j : ℕ) (o : Only (memberAddress i j) (memberAddress i j + 4) w w′) where
@@ -50,9 +54,19 @@ module _ (w w′ : List ℕ) (i j : ℕ) (o : Only (memberAddress i j) (memberAd
   pub rows-before : i < 64 → rowsIn w′ i ≡ rowsIn w i
   rows-before h = tab-ext (rowIn w′) (rowIn w) i (λ k l. row-other w w′ i k in-row h (omega arith) (λ e. omega arith))
 
--- the test of the whole row
-module _ (w w′ : List ℕ) (i j count : ℕ) (k : Place) (ns : Numbers) (s : Stored i j (memberOf (memberKind k) (listOf ns)) w w′)
-    (hi : i < 64) (hj : j < count) (hc : count ≤ 8) (counted : cell w (rowAddress i + 1) ≡ count) where
+-- a member was stored: the test of the whole row
+module _ {w w′ : List ℕ} {i j count : ℕ} {k : Place} {ns : Numbers} (r : InRow w i j count) (shaped : MemberShaped k ns) {kind : MemberKind} (ek : kind ≡ memberKind k)
+    (put : w′ ≡ memberPut w i j kind (ns .n0) (ns .n1) (ns .n2)) where
+  s : Stored i j (memberOf (memberKind k) (listOf ns)) w w′
+  s = stored-member w w′ i j k ns kind (r .size) shaped ek put
+
+  counted-still : cell w′ (rowAddress i + 1) ≡ count
+  counted-still = s .only .below (rowAddress i + 1) (omega arith) ∙ r .counted
+
+  -- what the twin's test asks for
+  pub twin-ready : (i < 64) × (j < 8) × (cell w′ (rowAddress i + 1) ≤ 8) × (workSize ≤ length w′)
+  twin-ready = (r .row, omega (arith, r .member, r .few), omega (arith, counted-still, r .few), omega (arith, s .only .size, r .size))
+
   m : Member
   m = memberOf (memberKind k) (listOf ns)
 
@@ -66,9 +80,9 @@ module _ (w w′ : List ℕ) (i j count : ℕ) (k : Place) (ns : Numbers) (s : S
     where
       members : membersIn w′ i (cell w′ (rowAddress i + 1)) ≡ membersIn w i j ++ (memberOf (memberKind k) (listOf ns) ∷ [])
       members =
-          ap (membersIn w′ i) (s .only .below (rowAddress i + 1) (omega arith) ∙ counted ∙ sym e)
+          ap (membersIn w′ i) (counted-still ∙ sym e)
           ∙ tab-suc (memberIn w′ i) j
-          ∙ ap₂ (λ (xs : List Member) (x : Member). xs ++ (x ∷ [])) (members-before w w′ i j (s .only) (omega arith)) (s .holds)
+          ∙ ap₂ (λ (xs : List Member) (x : Member). xs ++ (x ∷ [])) (members-before w w′ i j (s .only) (omega (arith, r .member, r .few))) (s .holds)
 
   -- what the code asks is what the rule asks
   pub twin-asked : (eqb (suc j) count && twin (rowsIn w′ i) (rowIn w′ i))
@@ -77,7 +91,7 @@ module _ (w w′ : List ℕ) (i j count : ℕ) (k : Place) (ns : Numbers) (s : S
   unfolding m
   twin-asked =
       go (eqb (suc j) count) refl
-      ∙ ap₂ (λ (a b : ℕ). eqb (suc a) b && T-of) (sym (length-tab (memberIn w i) j)) (sym counted)
+      ∙ ap₂ (λ (a b : ℕ). eqb (suc a) b && T-of) (sym (length-tab (memberIn w i) j)) (sym (r .counted))
     where
       T-of : Bool
       T-of = twin (rowsIn w i) (record { kind = (headingIn w i) .kind; members = membersIn w i j ++ (memberOf (memberKind k) (listOf ns) ∷ []) })
@@ -85,7 +99,7 @@ module _ (w w′ : List ℕ) (i j count : ℕ) (k : Place) (ns : Numbers) (s : S
       go : (b : Bool) → eqb (suc j) count ≡ b → (b && twin (rowsIn w′ i) (rowIn w′ i)) ≡ (b && T-of)
       go false e = refl
       go true e =
-          ap₂ twin (rows-before w w′ i j (s .only) hi) (whole (eqb→eq (suc j) count (subst T (sym e) tt)))
+          ap₂ twin (rows-before w w′ i j (s .only) (r .row)) (whole (eqb→eq (suc j) count (subst T (sym e) tt)))
 
   settle-bad : (q : Reason) (ls : List Line) (n : ℕ) → settle {A = Member} (bad q) ls n ≡ refused q n
   unfolding settle
@@ -95,11 +109,11 @@ module _ (w w′ : List ℕ) (i j count : ℕ) (k : Place) (ns : Numbers) (s : S
   unfolding settle
   settle-good x ls n = refl
 
-  not-moved : (q : Reason) (n at n′ : ℕ) {A : Type 0} → Progress.Refused q n ≡ Progress.Moved at n′ → A
-  not-moved q n at n′ e = clash (cc)
+  not-moved : {q : Reason} {n : ℕ} {to : Cursor} {A : Type 0} → Progress.Refused q n ≡ Progress.Moved to → A
+  not-moved e = clash (cc)
 
   rest : Judged Member
-  rest = memberRest (rowsIn w i) (headingIn w i) (membersIn w i j) k (listOf ns)
+  rest = memberRest (length (rowsIn w i)) (rowsIn w i) (headingIn w i) (membersIn w i j) k (listOf ns)
 
   Asked : Bool
   Asked =
@@ -117,36 +131,36 @@ module _ (w w′ : List ℕ) (i j count : ℕ) (k : Place) (ns : Numbers) (s : S
   lower : mentionsBelow (length (rowsIn w i)) (memberOf (memberKind k) (listOf ns)) ≡ mentionsBelow i (memberIn w′ i j)
   lower = ap₂ mentionsBelow (length-tab (rowIn w) i) (sym (s .holds))
 
-  module _ (next n : ℕ) where
-    pub keep-twin : (eqb (suc j) count && twin (rowsIn w′ i) (rowIn w′ i)) ≡ true → Kept i j k ns next n w w′ (Progress.Refused DuplicateRow n)
+  module _ (n : ℕ) (next : Cursor) where
+    pub keep-twin : (eqb (suc j) count && twin (rowsIn w′ i) (rowIn w′ i)) ≡ true → Kept i j k ns n next w w′ (Progress.Refused DuplicateRow n)
     unfolding rest Asked
     keep-twin e =
         record {
-          told = λ text. sym (ap (λ x. settle x (linesOf (drop next text)) n) (rest-twin (sym twin-asked ∙ e)) ∙ settle-bad DuplicateRow (linesOf (drop next text)) n);
+          told = λ text. sym (ap (λ x. settle x (linesOf (drop (next .at) text)) n) (rest-twin (sym twin-asked ∙ e)) ∙ settle-bad DuplicateRow (linesOf (drop (next .at) text)) n);
           only = s .only;
-          moves = λ at n′ p. not-moved DuplicateRow n at n′ p;
+          moves = λ to p. not-moved p;
         }
 
     module _ (e : (eqb (suc j) count && twin (rowsIn w′ i) (rowIn w′ i)) ≡ false) where
-      pub keep-not : mentionsBelow i (memberIn w′ i j) ≡ false → Kept i j k ns next n w w′ (Progress.Refused NotDefined n)
+      pub keep-not : mentionsBelow i (memberIn w′ i j) ≡ false → Kept i j k ns n next w w′ (Progress.Refused NotDefined n)
       unfolding rest Asked
       keep-not f =
           record {
             told = λ text.
-                sym (ap (λ x. settle x (linesOf (drop next text)) n) (rest-on (sym twin-asked ∙ e) ∙ demand-no _ _ _ (lower ∙ f))
-                ∙ settle-bad NotDefined (linesOf (drop next text)) n);
+                sym (ap (λ x. settle x (linesOf (drop (next .at) text)) n) (rest-on (sym twin-asked ∙ e) ∙ demand-no _ _ _ (lower ∙ f))
+                ∙ settle-bad NotDefined (linesOf (drop (next .at) text)) n);
             only = s .only;
-            moves = λ at n′ p. not-moved NotDefined n at n′ p;
+            moves = λ to p. not-moved p;
           }
 
-      pub keep-good : mentionsBelow i (memberIn w′ i j) ≡ true → Kept i j k ns next n w w′ (Progress.Moved next (n + 1))
+      pub keep-good : next .line ≡ n + 1 → mentionsBelow i (memberIn w′ i j) ≡ true → Kept i j k ns n next w w′ (Progress.Moved next)
       unfolding rest Asked
-      keep-good f =
+      keep-good en f =
           record {
             told = λ text.
-                ap₂ (λ (x : Member) (l : ℕ). got x (linesOf (drop next text)) l) (s .holds) (add-one n)
-                ∙ sym (ap (λ x. settle x (linesOf (drop next text)) n) (rest-on (sym twin-asked ∙ e) ∙ demand-yes _ _ _ (lower ∙ f))
-                ∙ settle-good (memberOf (memberKind k) (listOf ns)) (linesOf (drop next text)) n);
+                ap₂ (λ (x : Member) (l : ℕ). got x (linesOf (drop (next .at) text)) l) (s .holds) (en ∙ add-one n)
+                ∙ sym (ap (λ x. settle x (linesOf (drop (next .at) text)) n) (rest-on (sym twin-asked ∙ e) ∙ demand-yes _ _ _ (lower ∙ f))
+                ∙ settle-good (memberOf (memberKind k) (listOf ns)) (linesOf (drop (next .at) text)) n);
             only = s .only;
-            moves = λ at n′ p. ((cc), (cc));
+            moves = λ to p. cc;
           }

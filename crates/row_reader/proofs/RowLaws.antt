@@ -26,10 +26,11 @@ use Rattle.table.specs.Only.{Only}
 use Rattle.table.specs.Stores.{rowHeadPut}
 use Rattle.table.proofs.ViewLaws.{only-refl, only-set, only-trans, only-widen, row-other}
 use Rattle.lexer.specs.declared.Numbers.{Numbers}
+use Rattle.line_reader.specs.declared.Cursor.{Cursor}
 use Rattle.line_reader.specs.declared.LineTaken.{LineTaken}
 use Rattle.line_reader.specs.declared.Wanted.{Wanted}
 use Rattle.line_reader.specs.declared.Progress.{Progress}
-use Rattle.line_reader.specs.Told.{Room, lineAsked, LineTold, readTold, stoppedBy, Advanced}
+use Rattle.line_reader.specs.Told.{readFrom, lineAsked, LineTold, readTold, stoppedBy, Advanced}
 use Rattle.reader_loop.proofs.ThenLaws.{past, advanced-sooner}
 use Rattle.row_reader.specs.Reads.{headingIn, Headed, MembersRead, rowRest, RowKept, RowRead}
 
@@ -84,29 +85,29 @@ module _ (w : List ℕ) (i kind count : ℕ) (size : workSize ≤ length w) wher
     told-on : (eqb count 0 && twin (rowsIn (headed w i kind count) i) (rowIn (headed w i kind count) i)) ≡ false
         → (ls : List Line) (n : ℕ)
         → rowRest (rowsIn w i) (settle (rowTold (rowsIn w i) kind count) ls n)
-        ≡ andThen (many count (λ before. one (memberLine (rowsIn w i) (record { kind = kindOf kind; count = count }) before)) [] ls (suc n))
+        ≡ andThen (many count (λ before. one (memberLine (length (rowsIn w i)) (rowsIn w i) (record { kind = kindOf kind; count = count }) before)) [] ls (suc n))
         (λ members. give (record { kind = kindOf kind; members = members }))
     unfolding rowRest andThen settle
     told-on e ls n = ap (λ x. rowRest (rowsIn w i) (settle x ls n)) (demand-yes _ _ _ (ap not (sym twin-asked ∙ e)))
 
-    module _ (text : List ℕ) (at n : ℕ) where
+    module _ {text : List ℕ} (n : ℕ) {next : Cursor} where
       pub row-twin : (eqb count 0 && twin (rowsIn (headed w i kind count) i) (rowIn (headed w i kind count) i)) ≡ true
-          → RowKept text i kind count at n w (headed w i kind count) (Progress.Refused DuplicateRow n)
-      row-twin e = record { told = sym (told-twin e (linesOf (drop at text)) n); only = headed-only; advanced = Advanced.stopped }
+          → RowKept text i kind count n next w (headed w i kind count) (Progress.Refused DuplicateRow n)
+      row-twin e = record { told = sym (told-twin e (linesOf (drop (next .at) text)) n); only = headed-only; advanced = Advanced.stopped }
 
-      pub row-members : (eqb count 0 && twin (rowsIn (headed w i kind count) i) (rowIn (headed w i kind count) i)) ≡ false
-          → (w′ : List ℕ) (r : Progress) → MembersRead text i count at (n + 1) (headed w i kind count) w′ r → RowKept text i kind count at n w w′ r
+      pub row-members : (eqb count 0 && twin (rowsIn (headed w i kind count) i) (rowIn (headed w i kind count) i)) ≡ false → next .line ≡ n + 1
+          → (w′ : List ℕ) (r : Progress) → MembersRead text i count next (headed w i kind count) w′ r → RowKept text i kind count n next w w′ r
       unfolding rowIn andThen
-      row-members e w′ r m =
+      row-members e en w′ r m =
           record {
             told =
                 ap (readTold text r) row′ ∙ each r
                 ∙ ap (λ x. andThen x (λ members. give (rowOf kind members)))
                 (m .told
-                ∙ ap₂ (λ (rs : List Row) (h : Heading). many count (λ before. one (memberLine rs h before)) [] (linesOf (drop at text)) (n + 1))
+                ∙ ap₂ (λ (rs : List Row) (h : Heading). readFrom text next (many count (λ before. one (memberLine (length rs) rs h before)) []))
                 (rows-kept (headed w i kind count) headed-only) heading
-                ∙ ap (λ (l : ℕ). many count (λ before. one (memberLine (rowsIn w i) (record { kind = kindOf kind; count = count }) before)) [] (linesOf (drop at text)) l) (add-one n))
-                ∙ sym (told-on e (linesOf (drop at text)) n);
+                ∙ ap (λ (l : ℕ). many count (λ before. one (memberLine (length (rowsIn w i)) (rowsIn w i) (record { kind = kindOf kind; count = count }) before)) [] (linesOf (drop (next .at) text)) l) (en ∙ add-one n))
+                ∙ sym (told-on e (linesOf (drop (next .at) text)) n);
             only = only-trans headed-only (only-widen (omega arith) (omega arith) (m .only));
             advanced = m .advanced;
           }
@@ -120,24 +121,23 @@ module _ (w : List ℕ) (i kind count : ℕ) (size : workSize ≤ length w) wher
 
           each : (p : Progress) → readTold text p (rowOf kind (membersIn w′ i count))
               ≡ andThen (readTold text p (membersIn w′ i count)) (λ members. give (rowOf kind members))
-          each (Progress.Moved a l) = refl
+          each (Progress.Moved to) = refl
           each (Progress.Refused q l) = refl
 
 -- the same, by what the calls left
-module _ (w : List ℕ) (i kind count : ℕ) (size : workSize ≤ length w) (hi : i < 64) (text : List ℕ) (at n : ℕ) (w₁ : List ℕ) (e : w₁ ≡ headed w i kind count)
-    (c′ : ℕ) (ec : c′ ≡ count) where
-  pub row-twin-by : (b : Bool) → b ≡ (eqb c′ 0 && twin (rowsIn w₁ i) (rowIn w₁ i)) → b ≡ true → RowKept text i kind count at n w w₁ (Progress.Refused DuplicateRow n)
-  row-twin-by b p q =
-      subst (λ (x : List ℕ). RowKept text i kind count at n w x (Progress.Refused DuplicateRow n)) (sym e)
-      (row-twin w i kind count size hi text at n
-      (sym (ap₂ (λ (x : List ℕ) (m : ℕ). eqb m 0 && twin (rowsIn x i) (rowIn x i)) e ec) ∙ sym p ∙ q))
+module _ (w : List ℕ) (i kind : ℕ) {count : ℕ} (size : workSize ≤ length w) (hi : i < 64) {w₁ : List ℕ} (e : w₁ ≡ headed w i kind count) {c′ : ℕ} (ec : c′ ≡ count) where
+  asked-by : {b : Bool} → b ≡ (eqb c′ 0 && twin (rowsIn w₁ i) (rowIn w₁ i)) → (eqb count 0 && twin (rowsIn (headed w i kind count) i) (rowIn (headed w i kind count) i)) ≡ b
+  asked-by p = sym (ap₂ (λ (x : List ℕ) (m : ℕ). eqb m 0 && twin (rowsIn x i) (rowIn x i)) e ec) ∙ sym p
 
-  pub row-members-by : (b : Bool) → b ≡ (eqb c′ 0 && twin (rowsIn w₁ i) (rowIn w₁ i)) → b ≡ false
-      → (w′ : List ℕ) (r : Progress) → MembersRead text i c′ at (n + 1) w₁ w′ r → RowKept text i kind count at n w w′ r
-  row-members-by b p q w′ r m =
-      row-members w i kind count size hi text at n
-      (sym (ap₂ (λ (x : List ℕ) (m : ℕ). eqb m 0 && twin (rowsIn x i) (rowIn x i)) e ec) ∙ sym p ∙ q) w′ r
-      (subst (λ (x : List ℕ). MembersRead text i count at (n + 1) x w′ r) e (subst (λ (k : ℕ). MembersRead text i k at (n + 1) w₁ w′ r) ec m))
+  pub row-twin-by : {text : List ℕ} (n : ℕ) {next : Cursor} {b : Bool} → b ≡ (eqb c′ 0 && twin (rowsIn w₁ i) (rowIn w₁ i)) → b ≡ true → RowKept text i kind count n next w w₁ (Progress.Refused DuplicateRow n)
+  row-twin-by {text} n {next} p q =
+      subst (λ (x : List ℕ). RowKept text i kind count n next w x (Progress.Refused DuplicateRow n)) (sym e) (row-twin w i kind count size hi n (asked-by p ∙ q))
+
+  pub row-members-by : {text : List ℕ} (n : ℕ) {next : Cursor} → next .line ≡ n + 1 → {b : Bool} → b ≡ (eqb c′ 0 && twin (rowsIn w₁ i) (rowIn w₁ i)) → b ≡ false
+      → {w′ : List ℕ} {r : Progress} → MembersRead text i c′ next w₁ w′ r → RowKept text i kind count n next w w′ r
+  row-members-by {text} n {next} en p q {w′} {r} m =
+      row-members w i kind count size hi n (asked-by p ∙ q) en w′ r
+      (subst (λ (x : List ℕ). MembersRead text i count next x w′ r) e (subst (λ (k : ℕ). MembersRead text i k next w₁ w′ r) ec m))
 
   pub headed-by : count ≤ 8 → Headed w₁ i c′
   headed-by h =
@@ -161,34 +161,31 @@ unfolding rowRest andThen
 rest-refused earlier q n = refl
 
 -- by what the heading's reader gave
-module _ (text : List ℕ) (at n i : ℕ) (w : List ℕ) (p : LineTaken) (told : LineTold Wanted.Row text at n p) where
+module _ {text : List ℕ} {from : Cursor} (i : ℕ) (w : List ℕ) {b : ℕ} {p : LineTaken} (told : LineTold Wanted.Row b text from p) where
   abbrev asked : Place → Numbers → Judged Heading
   asked k ns = rowTold (rowsIn w i) (ns .n0) (ns .n1)
 
-  told-by : readRow (rowsIn w i) (linesOf (drop at text)) n ≡ rowRest (rowsIn w i) (lineAsked text n asked p)
-  told-by = readRow-rest (rowsIn w i) (linesOf (drop at text)) n ∙ ap (rowRest (rowsIn w i)) (sym (told .told .0 (rowsIn w i)))
+  told-by : readFrom text from (readRow (rowsIn w i)) ≡ rowRest (rowsIn w i) (lineAsked text (from .line) asked p)
+  told-by = readRow-rest (rowsIn w i) (linesOf (drop (from .at) text)) (from .line) ∙ ap (rowRest (rowsIn w i)) (sym (told .told .0 (rowsIn w i)))
 
-  module _ (k : Place) (ns : Numbers) (at′ n′ : ℕ) (e : p ≡ LineTaken.Line k ns at′ n′) where
-    pub row-room : Room text at′ (n + 1)
-    row-room = (past p k ns at′ n′ e (told .onward)) .room
-
+  module _ {k : Place} {ns : Numbers} {next : Cursor} (e : p ≡ LineTaken.Line k ns next) where
     pub row-few : ns .n1 ≤ 8
-    row-few = told .told .1 k ns at′ n′ e
+    row-few = told .told .1 k ns next e
 
-    pub row-read : (w′ : List ℕ) (r : Progress) → RowKept text i (ns .n0) (ns .n1) at′ n w w′ r → RowRead text i at n w w′ r
-    row-read w′ r k₁ =
+    pub row-read : {w′ : List ℕ} {r : Progress} → RowKept text i (ns .n0) (ns .n1) (from .line) next w w′ r → RowRead text i from w w′ r
+    row-read {r = r} kept =
+        let q = past e (told .onward) in
         record {
-          told = k₁ .told ∙ sym (told-by ∙ ap (λ (x : LineTaken). rowRest (rowsIn w i) (lineAsked text n asked x)) e);
-          only = k₁ .only;
-          advanced = (let z : at ≤ at′ = omega (arith, (past p k ns at′ n′ e (told .onward)) .later) in advanced-sooner z r (k₁ .advanced));
+          told = kept .told ∙ sym (told-by ∙ ap (λ (x : LineTaken). rowRest (rowsIn w i) (lineAsked text (from .line) asked x)) e);
+          only = kept .only;
+          advanced = subst (λ (u : ℕ). Advanced text from u r) (q .pool) (advanced-sooner (let l : from .at ≤ next .at = omega (arith, q .later) in l) (kept .advanced));
         }
 
-  pub row-refused : (q : Reason) (l : ℕ) → p ≡ LineTaken.Refused q l → (r : Progress) → r ≡ stoppedBy p → RowRead text i at n w w r
-  row-refused q l e r c =
-      subst (RowRead text i at n w w) (sym (c ∙ ap stoppedBy e))
+  pub row-refused : {q : Reason} {l : ℕ} → p ≡ LineTaken.Refused q l → {r : Progress} → r ≡ stoppedBy p → RowRead text i from w w r
+  row-refused {q} {l} e c =
+      subst (RowRead text i from w w) (sym (c ∙ ap stoppedBy e))
       (record {
-        told =
-            sym (told-by ∙ ap (λ (x : LineTaken). rowRest (rowsIn w i) (lineAsked text n asked x)) e ∙ rest-refused (rowsIn w i) q l);
+        told = sym (told-by ∙ ap (λ (x : LineTaken). rowRest (rowsIn w i) (lineAsked text (from .line) asked x)) e ∙ rest-refused (rowsIn w i) q l);
         only = only-refl (rowAddress i) (rowAddress i + 36) w;
         advanced = Advanced.stopped;
       })

@@ -3,6 +3,7 @@ use Prim.Native.Nat.{ℕ, _+_, _≤_, _<_}
 use mathlib.Core.Path.{_≡_}
 use mathlib.Core.List.{List, []}
 use lib.ListN.{length, drop}
+use Rattle.sheet_rules.specs.declared.Member.{Member}
 use Rattle.sheet_rules.specs.declared.Place.{Place}
 use Rattle.sheet_rules.specs.Lines.{linesOf}
 use Rattle.sheet_rules.specs.Sheet.{Row}
@@ -14,7 +15,8 @@ use Rattle.line_judges.specs.Told.{memberRest, rowTold}
 use Rattle.table.specs.Layout.{rowAddress, memberAddress, workSize}
 use Rattle.table.specs.View.{cell, memberIn, membersIn, rowIn, rowsIn}
 use Rattle.table.specs.Only.{Only}
-use Rattle.reader_loop.specs.Items.{ItemRead, ItemsRead}
+use Rattle.reader_loop.specs.Items.{ItemRead, Items, ItemsRead}
+use Rattle.line_reader.specs.declared.Cursor.{Cursor}
 use Rattle.line_reader.specs.declared.Progress.{Progress}
 use Rattle.line_reader.specs.Told.{readTold, Advanced}
 
@@ -37,41 +39,55 @@ pub record InRow (w : List ℕ) (i j count : ℕ) : Type 0 where
   pub counted : cell w (rowAddress i + 1) ≡ count
   pub size : workSize ≤ length w
 
--- a judged member, kept: what is left to ask of its line was asked
-pub record Kept (i j : ℕ) (k : Place) (ns : Numbers) (next n : ℕ) (w w′ : List ℕ) (r : Progress) : Type 0 where
+-- a judged member, read at line n, kept: what is left to ask of its line was asked
+pub record Kept (i j : ℕ) (k : Place) (ns : Numbers) (n : ℕ) (next : Cursor) (w w′ : List ℕ) (r : Progress) : Type 0 where
   pub told : (text : List ℕ)
       → readTold text r (memberIn w′ i j)
-      ≡ settle (memberRest (rowsIn w i) (headingIn w i) (membersIn w i j) k (listOf ns)) (linesOf (drop next text)) n
+      ≡ settle (memberRest (length (rowsIn w i)) (rowsIn w i) (headingIn w i) (membersIn w i j) k (listOf ns)) (linesOf (drop (next .at) text)) n
   pub only : Only (memberAddress i j) (memberAddress i j + 4) w w′
-  pub moves : (at n′ : ℕ) → r ≡ Progress.Moved at n′ → (at ≡ next) × (n′ ≡ n + 1)
+  pub moves : (to : Cursor) → r ≡ Progress.Moved to → to ≡ next
 
 -- one member, read
-abbrev pub MemberRead : List ℕ → (i j at n : ℕ) → (w w′ : List ℕ) → Progress → Type 0
-MemberRead text i j at n w w′ r =
-    ItemRead text (one (memberLine (rowsIn w i) (headingIn w i) (membersIn w i j))) (λ x. memberIn x i j) (memberAddress i j) (memberAddress i j + 4) at n w w′ r
+abbrev pub MemberRead : List ℕ → (i j : ℕ) → Cursor → (w w′ : List ℕ) → Progress → Type 0
+MemberRead text i j from w w′ r =
+    ItemRead text (one (memberLine (length (rowsIn w i)) (rowsIn w i) (headingIn w i) (membersIn w i j))) (λ x. memberIn x i j) (λ x. from .used) (memberAddress i j) (memberAddress i j + 4) from w w′ r
+
+-- the members of row i, after the heading and the rows in the buffer
+abbrev pub memberItems : List ℕ → (i used : ℕ) → Items Member
+memberItems w i used =
+    record {
+      item = λ before. one (memberLine (length (rowsIn w i)) (rowsIn w i) (headingIn w i) before);
+      value = λ x j. memberIn x i j;
+      used = λ x j. used;
+      lo = rowAddress i + 4;
+      hi = rowAddress i + 36;
+    }
 
 -- all members of a row, read
-abbrev pub MembersRead : List ℕ → (i count at n : ℕ) → (w w′ : List ℕ) → Progress → Type 0
-MembersRead text i count at n w w′ r =
-    ItemsRead text (λ before. one (memberLine (rowsIn w i) (headingIn w i) before)) (λ x j. memberIn x i j) (rowAddress i + 4) (rowAddress i + 36) count at n w w′ r
+abbrev pub MembersRead : List ℕ → (i count : ℕ) → Cursor → (w w′ : List ℕ) → Progress → Type 0
+MembersRead text i count from w w′ r = ItemsRead text (memberItems w i (from .used)) count from w w′ r
 
 -- a row from its heading on: its twin is asked, and its members are read
 unfoldable pub rowRest : List Row → Read Heading → Read Row
 rowRest earlier x =
     andThen x
-    (λ h ls n. andThen (many (h .count) (λ before. one (memberLine earlier h before)) [] ls n) (λ members. give (record { kind = h .kind; members = members })))
+    (λ h ls n. andThen (many (h .count) (λ before. one (memberLine (length earlier) earlier h before)) [] ls n) (λ members. give (record { kind = h .kind; members = members })))
 
 -- a row whose heading was read at line n, kept
-pub record RowKept (text : List ℕ) (i kind count at n : ℕ) (w w′ : List ℕ) (r : Progress) : Type 0 where
+pub record RowKept (text : List ℕ) (i kind count n : ℕ) (next : Cursor) (w w′ : List ℕ) (r : Progress) : Type 0 where
   pub told : readTold text r (rowIn w′ i)
-      ≡ rowRest (rowsIn w i) (settle (rowTold (rowsIn w i) kind count) (linesOf (drop at text)) n)
+      ≡ rowRest (rowsIn w i) (settle (rowTold (rowsIn w i) kind count) (linesOf (drop (next .at) text)) n)
   pub only : Only (rowAddress i) (rowAddress i + 36) w w′
-  pub advanced : Advanced text at r
+  pub advanced : Advanced text next (next .used) r
 
 -- a row, read
-abbrev pub RowRead : List ℕ → (i at n : ℕ) → (w w′ : List ℕ) → Progress → Type 0
-RowRead text i at n w w′ r = ItemRead text (readRow (rowsIn w i)) (λ x. rowIn x i) (rowAddress i) (rowAddress i + 36) at n w w′ r
+abbrev pub RowRead : List ℕ → (i : ℕ) → Cursor → (w w′ : List ℕ) → Progress → Type 0
+RowRead text i from w w′ r = ItemRead text (readRow (rowsIn w i)) (λ x. rowIn x i) (λ x. from .used) (rowAddress i) (rowAddress i + 36) from w w′ r
 
--- all rows of a sheet, read, in the rows' part of the table
-abbrev pub RowsRead : List ℕ → (count at n : ℕ) → (w w′ : List ℕ) → Progress → Type 0
-RowsRead text count at n w w′ r = ItemsRead text readRow rowIn (rowAddress 0) (rowAddress 63 + 36) count at n w w′ r
+-- the rows of a sheet, in their part of the table
+abbrev pub rowItems : ℕ → Items Row
+rowItems used = record { item = readRow; value = rowIn; used = λ x j. used; lo = rowAddress 0; hi = rowAddress 63 + 36 }
+
+-- all rows of a sheet, read
+abbrev pub RowsRead : List ℕ → (count : ℕ) → Cursor → (w w′ : List ℕ) → Progress → Type 0
+RowsRead text count from w w′ r = ItemsRead text (rowItems (from .used)) count from w w′ r

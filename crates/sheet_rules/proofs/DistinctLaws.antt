@@ -1,15 +1,14 @@
 -- The rows of a sheet that was read are distinct. Assumes nothing.
-use Prim.Native.Nat.{ℕ, suc, _+_, _≤_, _<_}
+use Prim.Native.Nat.{ℕ, suc, _+_, _≤_}
 use native.Mathlib.Omega.{arith}
 use native.Mathlib.Decide.{decLe}
-use mathlib.Core.Path.{_≡_, refl, sym, ap, _∙_}
+use mathlib.Core.Path.{_≡_, refl, _∙_}
 use mathlib.Core.Bool.{Bool, true, false, not, _&&_}
 use mathlib.Core.List.{List, [], _∷_, _++_}
 use lib.Dec.{T, eqb}
 use lib.ListN.{length, take, length-append, List·getD-append}
 use lib.Seq.{getD-at, take-append-le, take-at}
-use borrow.Author.Tests.{eq-eqb, not-true}
-use Rattle.lists.proofs.Tests.{T→true}
+use borrow.Author.Tests.{eq-eqb}
 use Rattle.sheet_rules.specs.declared.Kind.{Kind}
 use Rattle.sheet_rules.specs.declared.Member.{Member}
 use Rattle.sheet_rules.specs.declared.Place.{Place}
@@ -52,10 +51,10 @@ record SoFar (earlier : List Row) (h : Heading) (k : ℕ) (xs : List Member) : T
   counted : length xs + k ≡ h .count
   complete : k ≡ 0 → NoTwin earlier (h .kind) xs
 
-member-distinct : (earlier : List Row) (h : Heading) (j : ℕ) (before : List Member) → SoFar earlier h (suc j) before
-    → (k : Place) (ns : List ℕ) → Judges (λ x. SoFar earlier h j (before ++ (x ∷ []))) (memberLine earlier h before k ns)
+member-distinct : (bound : ℕ) (earlier : List Row) (h : Heading) (j : ℕ) (before : List Member) → SoFar earlier h (suc j) before
+    → (k : Place) (ns : List ℕ) → Judges (λ x. SoFar earlier h j (before ++ (x ∷ []))) (memberLine bound earlier h before k ns)
 unfolding memberLine
-member-distinct earlier h j before p k ns =
+member-distinct bound earlier h j before p k ns =
     judges-demand P _ _ _ (λ t. judges-demand P _ _ _ (λ u. judges-demand P _ _ _ (λ v. judges-demand P _ _ _ (λ w. judges-demand P _ _ _ (λ x.
     its-good (record {
       counted = omega (arith, p .counted, length-append before (memberOf (memberKind k) ns ∷ []));
@@ -72,8 +71,8 @@ row-distinct earlier ls n =
     gives-then (λ h. h .count ≡ 0 → NoTwin earlier (h .kind) []) (λ a. twin earlier a ≡ false) _ _
     (gives-one (λ h. h .count ≡ 0 → NoTwin earlier (h .kind) []) (rowLine earlier) (heading-distinct earlier) ls n) (λ h none ls n.
     gives-then (SoFar earlier h 0) (λ a. twin earlier a ≡ false) _ _
-    (gives-many (SoFar earlier h) (λ before. one (memberLine earlier h before))
-    (λ k before p. gives-one (λ x. SoFar earlier h k (before ++ (x ∷ []))) (memberLine earlier h before) (member-distinct earlier h k before p))
+    (gives-many (SoFar earlier h) (λ before. one (memberLine (length earlier) earlier h before))
+    (λ k before p. gives-one (λ x. SoFar earlier h k (before ++ (x ∷ []))) (memberLine (length earlier) earlier h before) (member-distinct (length earlier) earlier h k before p))
     (h .count) [] (record { counted = omega arith; complete = none }) ls n)
     (λ ms p ls n. its-got (p .complete refl)))
 

@@ -1,8 +1,9 @@
 -- Every key takes a number, and none takes more than nine; and what a line that stands at a place is. Assumes nothing.
 use Prim.Native.Nat.{ℕ, _≤_}
 use mathlib.Core.Path.{_≡_, refl, sym, ap, _∙_, subst}
+use mathlib.Core.Bool.{_&&_}
 use mathlib.Core.List.{List, [], _∷_}
-use lib.Dec.{T, eqb→eq, leb, leb→le, lit≤}
+use lib.Dec.{T, eqb→eq, leb, leb→le}
 use lib.ListN.{length, getD}
 use Rattle.lists.proofs.Tests.{and-left, and-right}
 use Rattle.sheet_rules.specs.declared.MemberKind.{MemberKind}
@@ -13,41 +14,30 @@ use Rattle.sheet_rules.specs.declared.Place.{Place}
 use Rattle.sheet_rules.specs.declared.Place.the-variants.{Types, Row, Member, Forms, Form, Keep, Init, Body, Main, Instruction, Nowhere}
 use Rattle.sheet_rules.specs.Keys.{countOf, placeNumber, samePlace, takes, stands, memberKind, operationOf}
 
+-- the two tests at once, a line for each key
+counts-within : (k : Place) → T (leb 1 ((countOf k) .fewest) && leb ((countOf k) .most) 9)
+counts-within Types = tt
+counts-within Row = tt
+counts-within (Member Method) = tt
+counts-within (Member Field) = tt
+counts-within Forms = tt
+counts-within Form = tt
+counts-within Keep = tt
+counts-within Init = tt
+counts-within Body = tt
+counts-within Main = tt
+counts-within (Instruction New) = tt
+counts-within (Instruction Call) = tt
+counts-within (Instruction Get) = tt
+counts-within (Instruction Put) = tt
+counts-within (Instruction Copy) = tt
+counts-within Nowhere = tt
+
 pub fewest-one : (k : Place) → 1 ≤ (countOf k) .fewest
-fewest-one Types = lit≤ tt
-fewest-one Row = lit≤ tt
-fewest-one (Member Method) = lit≤ tt
-fewest-one (Member Field) = lit≤ tt
-fewest-one Forms = lit≤ tt
-fewest-one Form = lit≤ tt
-fewest-one Keep = lit≤ tt
-fewest-one Init = lit≤ tt
-fewest-one Body = lit≤ tt
-fewest-one Main = lit≤ tt
-fewest-one (Instruction New) = lit≤ tt
-fewest-one (Instruction Call) = lit≤ tt
-fewest-one (Instruction Get) = lit≤ tt
-fewest-one (Instruction Put) = lit≤ tt
-fewest-one (Instruction Copy) = lit≤ tt
-fewest-one Nowhere = lit≤ tt
+fewest-one k = leb→le 1 ((countOf k) .fewest) (and-left (leb 1 ((countOf k) .fewest)) (leb ((countOf k) .most) 9) (counts-within k))
 
 pub most-nine : (k : Place) → (countOf k) .most ≤ 9
-most-nine Types = lit≤ tt
-most-nine Row = lit≤ tt
-most-nine (Member Method) = lit≤ tt
-most-nine (Member Field) = lit≤ tt
-most-nine Forms = lit≤ tt
-most-nine Form = lit≤ tt
-most-nine Keep = lit≤ tt
-most-nine Init = lit≤ tt
-most-nine Body = lit≤ tt
-most-nine Main = lit≤ tt
-most-nine (Instruction New) = lit≤ tt
-most-nine (Instruction Call) = lit≤ tt
-most-nine (Instruction Get) = lit≤ tt
-most-nine (Instruction Put) = lit≤ tt
-most-nine (Instruction Copy) = lit≤ tt
-most-nine Nowhere = lit≤ tt
+most-nine k = leb→le ((countOf k) .most) 9 (and-right (leb 1 ((countOf k) .fewest)) (leb ((countOf k) .most) 9) (counts-within k))
 
 -- WHERE A LINE STANDS
 

@@ -2,7 +2,6 @@
 use Prim.Native.Nat.{ℕ, zero, suc, _≤_}
 use native.Mathlib.Omega.{arith}
 use mathlib.Core.Path.{_≡_, refl, sym, ap, _∙_, subst}
-use mathlib.Core.Bool.{_&&_}
 use mathlib.Core.List.{List, [], _∷_}
 use lib.Dec.{T, leb, leb→le}
 use lib.ListN.{length, drop}
@@ -13,11 +12,11 @@ use Rattle.sheet_rules.specs.declared.Place.{Place}
 use Rattle.sheet_rules.specs.Limits.{memberLimit}
 use Rattle.sheet_rules.specs.Keys.{Count, exactly, countOf, placeNumber, stands, memberKind, operationOf}
 use Rattle.sheet_rules.specs.Lines.{Line, line}
-use Rattle.sheet_rules.specs.Sheet.{Row, Instr}
-use Rattle.sheet_rules.specs.Reader.{Judged, nth, countLine, existingLine}
+use Rattle.sheet_rules.specs.Sheet.{Row}
+use Rattle.sheet_rules.specs.Reader.{nth, countLine, existingLine}
 use Rattle.sheet_rules.specs.declared.Member.{Member}
 use Rattle.sheet_rules.specs.RowLines.{kindOf, memberOf, Heading, rowLine, memberLine}
-use Rattle.sheet_rules.specs.FormLines.{FormHeading, formLine, bodyLine, instrOf, instrLine}
+use Rattle.sheet_rules.specs.FormLines.{formLine, bodyLine, instrOf, instrLine}
 use Rattle.sheet_rules.specs.Print.{kindNumber, memberWritten, instrWritten}
 use Rattle.sheet_rules.proofs.KeysLaws.{placeFrom, stands-place, stands-fewest, stands-most}
 use Rattle.sheet_rules.proofs.ReaderLaws.{Judges, its-good, judges-demand}
@@ -69,30 +68,6 @@ sole-2 z k ns t = λ i. line (sole-place z k ns t i) (two-of ns (sole-most z k n
 
 -- EACH LINE
 
-types-sole : Sole Place.Types 1
-types-sole = record { is = λ a b. refl; count = refl }
-
-forms-sole : Sole Place.Forms 1
-forms-sole = record { is = λ a b. refl; count = refl }
-
-keep-sole : Sole Place.Keep 1
-keep-sole = record { is = λ a b. refl; count = refl }
-
-init-sole : Sole Place.Init 1
-init-sole = record { is = λ a b. refl; count = refl }
-
-body-sole : Sole Place.Body 1
-body-sole = record { is = λ a b. refl; count = refl }
-
-main-sole : Sole Place.Main 1
-main-sole = record { is = λ a b. refl; count = refl }
-
-row-sole : Sole Place.Row 2
-row-sole = record { is = λ a b. refl; count = refl }
-
-form-sole : Sole Place.Form 2
-form-sole = record { is = λ a b. refl; count = refl }
-
 -- the line of a place with one number
 abbrev pub NumberWritten : Place → ℕ → List Line → Type 0
 NumberWritten wanted n l = l ≡ line wanted (n ∷ []) ∷ []
@@ -110,22 +85,22 @@ unfolding bodyLine
 bodyLine-written z used k ns = judges-demand _ _ _ _ (λ t. judges-demand _ _ _ _ (λ u. its-good (sole-1 z k ns t)))
 
 pub types-written : (low high : ℕ) (k : Place) (ns : List ℕ) → Judges (λ n. NumberWritten Place.Types n (line k ns ∷ [])) (countLine Place.Types low high k ns)
-types-written = count-written types-sole
+types-written = count-written (record { is = λ a b. refl; count = refl })
 
 pub forms-written : (low high : ℕ) (k : Place) (ns : List ℕ) → Judges (λ n. NumberWritten Place.Forms n (line k ns ∷ [])) (countLine Place.Forms low high k ns)
-forms-written = count-written forms-sole
+forms-written = count-written (record { is = λ a b. refl; count = refl })
 
 pub keep-written : (bound : ℕ) (k : Place) (ns : List ℕ) → Judges (λ n. NumberWritten Place.Keep n (line k ns ∷ [])) (existingLine Place.Keep bound k ns)
-keep-written = existing-written keep-sole
+keep-written = existing-written (record { is = λ a b. refl; count = refl })
 
 pub init-written : (bound : ℕ) (k : Place) (ns : List ℕ) → Judges (λ n. NumberWritten Place.Init n (line k ns ∷ [])) (existingLine Place.Init bound k ns)
-init-written = existing-written init-sole
+init-written = existing-written (record { is = λ a b. refl; count = refl })
 
 pub body-written : (used : ℕ) (k : Place) (ns : List ℕ) → Judges (λ n. NumberWritten Place.Body n (line k ns ∷ [])) (bodyLine Place.Body used k ns)
-body-written = bodyLine-written body-sole
+body-written = bodyLine-written (record { is = λ a b. refl; count = refl })
 
 pub main-written : (used : ℕ) (k : Place) (ns : List ℕ) → Judges (λ n. NumberWritten Place.Main n (line k ns ∷ [])) (bodyLine Place.Main used k ns)
-main-written = bodyLine-written main-sole
+main-written = bodyLine-written (record { is = λ a b. refl; count = refl })
 
 -- K is the number of the kind that it says
 kind-back : (n : ℕ) → n ≤ 1 → kindNumber (kindOf n) ≡ n
@@ -138,13 +113,13 @@ pub row-written : (earlier : List Row) (k : Place) (ns : List ℕ)
 unfolding rowLine
 row-written earlier k ns =
     judges-demand _ _ _ _ (λ t. judges-demand _ _ _ _ (λ u. judges-demand _ _ _ _ (λ v.
-    its-good (sole-2 row-sole k ns t
+    its-good (sole-2 (record { is = λ a b. refl; count = refl }) k ns t
     ∙ ap (λ (x : ℕ). line Place.Row (x ∷ nth ns 1 ∷ []) ∷ [])
     (sym (kind-back (nth ns 0) (leb→le (nth ns 0) 1 (and-left (leb (nth ns 0) 1) (leb (nth ns 1) memberLimit) u))))))))
 
 pub form-written : (rows : ℕ) (k : Place) (ns : List ℕ) → Judges (λ h. line k ns ∷ [] ≡ line Place.Form (h .row ∷ h .count ∷ []) ∷ []) (formLine rows k ns)
 unfolding formLine
-form-written rows k ns = judges-demand _ _ _ _ (λ t. judges-demand _ _ _ _ (λ u. judges-demand _ _ _ _ (λ v. its-good (sole-2 form-sole k ns t))))
+form-written rows k ns = judges-demand _ _ _ _ (λ t. judges-demand _ _ _ _ (λ u. judges-demand _ _ _ _ (λ v. its-good (sole-2 (record { is = λ a b. refl; count = refl }) k ns t))))
 
 member-back : (k : Place) (ns : List ℕ) → T (stands (Place.Member MemberKind.Method) k ns) → line k ns ∷ [] ≡ memberWritten (memberOf (memberKind k) ns) ∷ []
 member-back k ns t = go (memberKind k) (stands-place (Place.Member MemberKind.Method) k ns t)
@@ -153,10 +128,10 @@ member-back k ns t = go (memberKind k) (stands-place (Place.Member MemberKind.Me
     go MemberKind.Method e = λ i. line (e i) (three-of ns (stands-most (Place.Member MemberKind.Method) k ns t e) (stands-fewest (Place.Member MemberKind.Method) k ns t e) i) ∷ []
     go MemberKind.Field e = λ i. line (e i) (two-of ns (stands-most (Place.Member MemberKind.Method) k ns t e) (stands-fewest (Place.Member MemberKind.Method) k ns t e) i) ∷ []
 
-pub member-written : (earlier : List Row) (h : Heading) (before : List Member) (k : Place) (ns : List ℕ)
-    → Judges (λ m. line k ns ∷ [] ≡ memberWritten m ∷ []) (memberLine earlier h before k ns)
+pub member-written : (bound : ℕ) (earlier : List Row) (h : Heading) (before : List Member) (k : Place) (ns : List ℕ)
+    → Judges (λ m. line k ns ∷ [] ≡ memberWritten m ∷ []) (memberLine bound earlier h before k ns)
 unfolding memberLine
-member-written earlier h before k ns =
+member-written bound earlier h before k ns =
     judges-demand _ _ _ _ (λ t. judges-demand _ _ _ _ (λ u. judges-demand _ _ _ _ (λ v. judges-demand _ _ _ _ (λ w. judges-demand _ _ _ _ (λ x.
     its-good (member-back k ns t))))))
 

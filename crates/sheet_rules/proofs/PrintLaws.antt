@@ -1,25 +1,22 @@
 -- The round trip: a text that reads as a sheet is that sheet's print. Each reader takes the lines of what it gives. Assumes nothing.
 use Prim.Native.Nat.{ℕ, suc, _+_}
 use native.Mathlib.Omega.{arith}
-use mathlib.Core.Path.{_≡_, refl, sym, ap, _∙_, subst}
-use mathlib.Core.Bool.{Bool, true, false, cond}
+use mathlib.Core.Path.{_≡_, refl, sym, ap, _∙_}
 use mathlib.Core.List.{List, [], _∷_, _++_, map, map-append, append-assoc, append-nil}
-use lib.Dec.{leb}
 use lib.ListN.{length, getD, length-append}
 use Rattle.lists.proofs.Tests.{clash}
 use Rattle.sheet_rules.specs.declared.Member.{Member}
 use Rattle.sheet_rules.specs.declared.Member.the-variants.{Method, Field}
 use Rattle.sheet_rules.specs.declared.Place.{Place}
 use Rattle.sheet_rules.specs.declared.Reason.{Reason}
-use Rattle.sheet_rules.specs.declared.Reason.the-variants.{TextTooLong}
-use Rattle.sheet_rules.specs.Limits.{textLimit, rowLimit, formLimit}
-use Rattle.sheet_rules.specs.Lines.{Line, line, linesOf}
-use Rattle.sheet_rules.specs.Sheet.{Row, Instr, Part, init, body, Form, Sheet, noMember, rowAt, sizeOfParts, sizeOfForms}
+use Rattle.sheet_rules.specs.Limits.{rowLimit, formLimit}
+use Rattle.sheet_rules.specs.Lines.{Line, line}
+use Rattle.sheet_rules.specs.Sheet.{Row, Instr, Part, Form, Sheet, noMember, rowAt, sizeOfParts, sizeOfForms}
 use Rattle.sheet_rules.specs.Reader.{Read, got, refused, Reader, give, andThen, one, many, countLine, existingLine}
 use Rattle.sheet_rules.specs.RowLines.{Heading, rowLine, memberLine, readRow}
 use Rattle.sheet_rules.specs.FormLines.{FormHeading, formLine, bodyLine, instrLine, readInstrs, readPart, readForm}
-use Rattle.sheet_rules.specs.Reading.{readEnd, readSheet, Meaning, readable, unreadable, conclude, meaning}
-use Rattle.sheet_rules.specs.Print.{kindNumber, memberWritten, rowWritten, rowsWritten, instrWritten, partWritten, partsWritten, keepWritten, formWritten, formsWritten, sheetWritten, linesBytes, print}
+use Rattle.sheet_rules.specs.Reading.{readEnd, readSheet, readable, conclude}
+use Rattle.sheet_rules.specs.Print.{kindNumber, memberWritten, rowWritten, rowsWritten, instrWritten, partWritten, partsWritten, keepWritten, formWritten, formsWritten, sheetWritten, print}
 use Rattle.sheet_rules.proofs.TakenLaws.{Takes, takes, takes-none, takes-give, takes-map, takes-one, takes-then, takes-many}
 use Rattle.sheet_rules.proofs.LineWritten.{NumberWritten, types-written, forms-written, keep-written, init-written, body-written, main-written, row-written, form-written, member-written, instr-written}
 
@@ -89,8 +86,8 @@ unfolding readRow
 row-takes earlier ls n =
     takes-then RowHead _ (takes-one (rowLine earlier) (row-written earlier) ls n)
     (λ h l e ls n. takes-then (All (map memberWritten) (h .count)) _
-    (takes-items (map memberWritten) (λ m. memberWritten m ∷ []) (map-snoc memberWritten) refl (λ before. one (memberLine earlier h before))
-    (λ before. takes-one (memberLine earlier h before) (member-written earlier h before)) (h .count) ls n)
+    (takes-items (map memberWritten) (λ m. memberWritten m ∷ []) (map-snoc memberWritten) refl (λ before. one (memberLine (length earlier) earlier h before))
+    (λ before. takes-one (memberLine (length earlier) earlier h before) (member-written (length earlier) earlier h before)) (h .count) ls n)
     (λ ms m p ls n. takes-give (rw append-nil ((λ i. e i ++ p .lines i) ∙ ap (λ (c : ℕ). line Place.Row (kindNumber (h .kind) ∷ c ∷ []) ∷ map memberWritten ms) (sym (p .counted))))))
 
 -- INSTRUCTIONS, PARTS AND FORMS

@@ -51,20 +51,20 @@ record SoFar (i count k : ℕ) (xs : List Member) : Type 0 where
   low : (x : Member) → In x xs → nameOf x ≤ nameLimit
   counted : length xs + k ≡ count
 
-memberLine-keeps : (earlier : List Row) (h : Heading) (j : ℕ) (before : List Member) → SoFar (length earlier) (h .count) (suc j) before
-    → (k : Place) (ns : List ℕ) → Judges (λ x. SoFar (length earlier) (h .count) j (before ++ (x ∷ []))) (memberLine earlier h before k ns)
+memberLine-keeps : (bound : ℕ) (earlier : List Row) (h : Heading) (j : ℕ) (before : List Member) → SoFar bound (h .count) (suc j) before
+    → (k : Place) (ns : List ℕ) → Judges (λ x. SoFar bound (h .count) j (before ++ (x ∷ []))) (memberLine bound earlier h before k ns)
 unfolding memberLine
-memberLine-keeps earlier h j before p k ns =
+memberLine-keeps bound earlier h j before p k ns =
     judges-demand P _ _ _ (λ _. judges-demand P _ _ _ (λ l. judges-demand P _ _ _ (λ up. judges-demand P _ _ _ (λ _.
     judges-demand P _ _ _ (λ t. its-good (record {
-      lower = mentions-snoc (length earlier) before (memberOf (memberKind k) ns) (p .lower) t;
+      lower = mentions-snoc bound before (memberOf (memberKind k) ns) (p .lower) t;
       names = names-add before (memberOf (memberKind k) ns) (p .names) (subst (λ (m : ℕ). T (ascends before m)) (sym (memberOf-name (memberKind k) ns)) up);
       low = low-snoc (memberOf (memberKind k) ns) (subst (λ (m : ℕ). m ≤ nameLimit) (sym (memberOf-name (memberKind k) ns)) (leb→le (nth ns 0) nameLimit l));
       counted = one-more (memberOf (memberKind k) ns);
     }))))))
   where
     P : Member → Type 0
-    P x = SoFar (length earlier) (h .count) j (before ++ (x ∷ []))
+    P x = SoFar bound (h .count) j (before ++ (x ∷ []))
 
     low-snoc : (y : Member) → nameOf y ≤ nameLimit → (x : Member) → In x (before ++ (y ∷ [])) → nameOf x ≤ nameLimit
     low-snoc y l x i = go (in-snoc before i)
@@ -91,8 +91,8 @@ readRow-wellFormed earlier ls n =
     gives-then (λ h. h .count ≤ memberLimit) P _ _
     (gives-one (λ h. h .count ≤ memberLimit) (rowLine earlier) (rowLine-few earlier) ls n) (λ h few ls n.
     gives-then (SoFar (length earlier) (h .count) 0) P _ _
-    (gives-many (SoFar (length earlier) (h .count)) (λ before. one (memberLine earlier h before))
-    (λ k before p. gives-one (λ x. SoFar (length earlier) (h .count) k (before ++ (x ∷ []))) (memberLine earlier h before) (memberLine-keeps earlier h k before p))
+    (gives-many (SoFar (length earlier) (h .count)) (λ before. one (memberLine (length earlier) earlier h before))
+    (λ k before p. gives-one (λ x. SoFar (length earlier) (h .count) k (before ++ (x ∷ []))) (memberLine (length earlier) earlier h before) (memberLine-keeps (length earlier) earlier h k before p))
     (h .count) [] (record { lower = λ x i. absurd (in-nil i); names = end; low = λ x i. absurd (in-nil i); counted = omega arith }) ls n)
     (λ ms p ls n. its-got (record { lower = p .lower; names = p .names; low = p .low; few = omega arith })))
   where

@@ -85,9 +85,10 @@ abbrev pub mentionsBelow : ℕ → Member → Bool
 mentionsBelow i (Method n a r) = ltb a i && ltb r i
 mentionsBelow i (Field n r) = ltb r i
 
--- a member line, after the row's heading and the members before it; the last one completes the row (The sheet, rows)
-unfoldable pub memberLine : List Row → Heading → List Member → Place → List ℕ → Judged Member
-memberLine earlier h before k ns =
+-- a member line, after the row's heading and the members before it: it mentions rows below a bound, and the last one completes the
+-- row (The sheet, rows)
+unfoldable pub memberLine : ℕ → List Row → Heading → List Member → Place → List ℕ → Judged Member
+memberLine bound earlier h before k ns =
     demand (stands (Place.Member MemberKind.Method) k ns) Malformed
     (demand (leb (nth ns 0) nameLimit) OutOfLimit
     (demand (ascends before (nth ns 0)) NotAscending
@@ -96,12 +97,12 @@ memberLine earlier h before k ns =
     (eqb (suc (length before)) (h .count)
     && twin earlier (record { kind = h .kind; members = before ++ (memberOf (memberKind k) ns ∷ []) })))
     DuplicateRow
-    (demand (mentionsBelow (length earlier) (memberOf (memberKind k) ns)) NotDefined
+    (demand (mentionsBelow bound (memberOf (memberKind k) ns)) NotDefined
     (good (memberOf (memberKind k) ns))))))
 
--- a row, after the earlier ones (The sheet, rows)
+-- a row, after the earlier ones, which are the rows that it may mention (The sheet, rows)
 unfoldable pub readRow : List Row → Reader Row
 readRow earlier = do
   h ← one (rowLine earlier)
-  members ← many (h .count) (λ before. one (memberLine earlier h before)) []
+  members ← many (h .count) (λ before. one (memberLine (length earlier) earlier h before)) []
   give (record { kind = h .kind; members = members })

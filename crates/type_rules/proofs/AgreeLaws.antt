@@ -16,10 +16,10 @@ use Rattle.lists.proofs.Tests.{and-left, and-right, and-intro}
 use Rattle.sheet_rules.specs.declared.Member.{Member}
 use Rattle.sheet_rules.specs.declared.Member.the-variants.{Method, Field}
 use Rattle.sheet_rules.specs.declared.Reason.the-variants.{Misfit}
-use Rattle.sheet_rules.specs.Sheet.{Row, Instr, new, call, get, put, copy, Part, init, body, Form, Sheet, noRow, noForm, rowAt, formAt}
+use Rattle.sheet_rules.specs.Sheet.{Row, Instr, new, call, get, put, copy, Part, init, body, Form, Sheet, noRow, noForm, formAt}
 use Rattle.sheet_rules.specs.RowLines.{mentionsBelow}
 use Rattle.sheet_rules.specs.WellFormed.{Mentions, WellFormed}
-use Rattle.type_rules.specs.Typing.{Signature, methodIn, fieldIn, membersAt, Own, ownField, resultOf, rowOr0, slotRow, bodyRows, mainRows, Fault, unless, firstOf, allFit, callFault, putFault, instrFault, resultFault, instrFaults, partFaults, partsFaults, formFault, keepFaults, formFaults, formsFaults, lineFaults}
+use Rattle.type_rules.specs.Typing.{Signature, methodIn, fieldIn, membersAt, Own, ownField, resultOf, rowOr0, slotRow, bodyRows, mainRows, Fault, unless, firstOf, allFit, callFault, putFault, instrFault, resultFault, codeFaults, partFaults, partsFaults, keepFaults, formFaults, formsFaults, lineFaults, typedInstr, typedLines}
 use Rattle.type_rules.proofs.TypingLaws.{result-row}
 
 -- what holds of a list's elements, and of what stands in where there is none, holds of all that is looked up
@@ -44,7 +44,7 @@ abbrev argumentOf : Option Signature → ℕ
 argumentOf none = 0
 argumentOf (some m) = m .argument
 
-module _ (s : Sheet) (w : WellFormed s) where
+module _ {s : Sheet} (w : WellFormed s) where
   -- THE ROWS THAT TYPING MEETS
 
   -- a row of the sheet; row 0, which stands in where a look-up finds nothing, is one
@@ -115,7 +115,7 @@ module _ (s : Sheet) (w : WellFormed s) where
 
   -- TESTS THAT AGREE
 
-  module _ (f g : ℕ → ℕ → Bool) (agree : (a b : ℕ) → a < length (s .rows) → b < length (s .rows) → f a b ≡ g a b) where
+  module _ {f g : ℕ → ℕ → Bool} (agree : (a b : ℕ) → a < length (s .rows) → b < length (s .rows) → f a b ≡ g a b) where
     fit-agree : (a b : ℕ) → Here a → Here b → unless (f a b) Misfit ≡ unless (g a b) Misfit
     fit-agree a b p q = ap (λ (t : Bool). unless t Misfit) (agree a b p q)
 
@@ -149,8 +149,8 @@ module _ (s : Sheet) (w : WellFormed s) where
     result-agree (some r) a (i ∷ is) p q = refl
 
     instrs-agree : (own : Own) (result : Option ℕ) → Here (rowOr0 result) → (rows : List ℕ) → AllHere rows → (is : List Instr)
-        → instrFaults f s own result rows is ≡ instrFaults g s own result rows is
-    unfolding instrFaults
+        → codeFaults (typedInstr f s own result) s own rows is ≡ codeFaults (typedInstr g s own result) s own rows is
+    unfolding codeFaults
     instrs-agree own result p rows all [] = refl
     instrs-agree own result p rows all (i ∷ is) =
         let q : Here (slotRow s own rows i) = slot-here own rows all i in
@@ -159,8 +159,8 @@ module _ (s : Sheet) (w : WellFormed s) where
         (result-row f s own result rows i is ∙ result-agree result (slotRow s own rows i) is p q ∙ sym (result-row g s own result rows i is)))
         (instrs-agree own result p (rows ++ (slotRow s own rows i ∷ [])) (here-snoc rows all q) is)
 
-    module _ (x : Form) (row : Here (x .row)) (keeps : AllHere (x .keeps)) where
-      part-agree : (m : Member) → T (mentionsBelow (length (s .rows)) m) → (p : Part) → partFaults f s x m p ≡ partFaults g s x m p
+    module _ (number : ℕ) (x : Form) (row : Here (x .row)) (keeps : AllHere (x .keeps)) where
+      part-agree : (m : Member) → T (mentionsBelow (length (s .rows)) m) → (p : Part) → partFaults (typedLines f s) s number x m p ≡ partFaults (typedLines g s) s number x m p
       part-agree (Field n r) t (init k) =
           ap (λ (e : Fault). e ∷ []) (fit-agree (getD (x .keeps) k 0) r (here-at (x .keeps) keeps k) (ltb→lt r (length (s .rows)) t))
       part-agree (Method n a r) t (body is) =
@@ -170,27 +170,28 @@ module _ (s : Sheet) (w : WellFormed s) where
       part-agree (Field n r) t (body is) = refl
       part-agree (Method n a r) t (init k) = refl
 
-      parts-agree : (ms : List Member) → Mentions (length (s .rows)) ms → (ps : List Part) → partsFaults f s x ms ps ≡ partsFaults g s x ms ps
+      parts-agree : (ms : List Member) → Mentions (length (s .rows)) ms → (ps : List Part) → partsFaults (typedLines f s) s number x ms ps ≡ partsFaults (typedLines g s) s number x ms ps
       unfolding partsFaults
       parts-agree [] h ps = refl
       parts-agree (m ∷ ms) h [] = refl
       parts-agree (m ∷ ms) h (p ∷ ps) = ap₂ _++_ (part-agree m (h m (here refl)) p) (parts-agree ms (λ y i. h y (there i)) ps)
 
-      form-agree : formFaults f s x ≡ formFaults g s x
+      form-agree : formFaults (typedLines f s) s number x ≡ formFaults (typedLines g s) s number x
       form-agree =
-          ap (λ (es : List Fault). formFault (rowAt (s .rows) (x .row)) ∷ (keepFaults s (rowAt (s .rows) (x .row)) (x .keeps) ++ es))
+          ap (λ (es : List Fault). (typedLines g s) .ofForm number x ∷ (keepFaults (typedLines g s) number x ++ es))
           (parts-agree (membersAt s (x .row)) (members-here (x .row)) (x .parts))
 
-    forms-agree : (xs : List Form) → ((x : Form) → In x xs → Here (x .row) × AllHere (x .keeps)) → formsFaults f s xs ≡ formsFaults g s xs
+    forms-agree : (n : ℕ) (xs : List Form) → ((x : Form) → In x xs → Here (x .row) × AllHere (x .keeps))
+        → formsFaults (typedLines f s) s n xs ≡ formsFaults (typedLines g s) s n xs
     unfolding formsFaults
-    forms-agree [] h = refl
-    forms-agree (x ∷ xs) h =
+    forms-agree n [] h = refl
+    forms-agree n (x ∷ xs) h =
         let p = h x (here refl) in
-        ap₂ _++_ (form-agree x (p .0) (p .1)) (forms-agree xs (λ y i. h y (there i)))
+        ap₂ _++_ (form-agree n x (p .0) (p .1)) (forms-agree (suc n) xs (λ y i. h y (there i)))
 
     -- the faults of a sheet's lines depend on the test only at rows that the sheet has
-    pub faults-agree : lineFaults f s ≡ lineFaults g s
+    pub faults-agree : lineFaults (typedLines f s) s ≡ lineFaults (typedLines g s) s
     unfolding lineFaults
     faults-agree =
-        ap₂ (λ (es is : List Fault). es ++ (none ∷ is)) (forms-agree (s .forms) (λ x i. (w .forms x i .row, w .forms x i .keeps)))
+        ap₂ (λ (es is : List Fault). es ++ (none ∷ is)) (forms-agree 0 (s .forms) (λ x i. (w .forms x i .row, w .forms x i .keeps)))
         (instrs-agree none none (w .someRows) (mainRows s) (λ a i. absurd (in-nil i)) (s .main))

@@ -3,7 +3,7 @@
 use Prim.Native.Nat.{ℕ, suc}
 use mathlib.Core.Path.{_≡_, refl, sym, ap, _∙_, subst}
 use mathlib.Core.Bool.{Bool, true, false, not, _&&_}
-use mathlib.Core.List.{List, [], _∷_, _++_}
+use mathlib.Core.List.{List, [], _∷_, _++_, map}
 use mathlib.Core.Option.{Option, none, some}
 use mathlib.Core.Logic.{_⊎_, inl, inr, _↔_}
 use lib.Dec.{T}
@@ -21,7 +21,7 @@ use Rattle.sheet_rules.specs.Reading.{readable, meaning}
 use Rattle.sheet_rules.specs.WellFormed.{WellFormed}
 use Rattle.sheet_rules.proofs.ReadingLaws.{readable-wellFormed}
 use Rattle.type_rules.specs.Fit.{fits}
-use Rattle.type_rules.specs.Typing.{Own, resultOf, rowOr0, slotRow, slotRows, lastRow, mainRows, Fault, unless, firstOf, allFit, callFault, getFault, putFault, instrFault, resultFault, instrFaults, partFaults, partsFaults, isPure, hasField, keepFaults, formFaults, formsFaults, lineFaults, firstFault, firstFormLine, typing, verdictOn, verdict}
+use Rattle.type_rules.specs.Typing.{Own, resultOf, rowOr0, slotRow, slotRows, lastRow, mainRows, Fault, unless, firstOf, allFit, callFault, getFault, putFault, instrFault, resultFault, isPure, hasField, keepFault, LineJudge, codeFaults, partFaults, partsFaults, keepFaults, formFaults, formsFaults, lineFaults, typedInstr, typedLines, firstFault, firstFormLine, typing, verdictOn, verdict}
 use Rattle.type_rules.specs.Typed.{SlotFits, InstrTyped, typed-new, typed-call, typed-get, typed-put, typed-copy, ResultFits, undeclared, declared, CodeTyped, end, next, PartTyped, typed-init, typed-body, FormTyped, Typed}
 use Rattle.type_rules.proofs.TypingLaws.{Faultless, lastRow-snoc, result-row, accepted-typed}
 
@@ -51,6 +51,10 @@ passed : (b : Bool) (r : Reason) → T b → unless b r ≡ none
 passed b r t = ap (λ (x : Bool). unless x r) (T→true b t)
 
 module _ (s : Sheet) where
+  -- typing's judge of the sheet's lines
+  abbrev ofTyping : LineJudge
+  ofTyping = typedLines (fits (s .rows)) s
+
   fit-slots : {rows ss bs : List ℕ} → Pairwise (SlotFits s rows) ss bs → T (allFit (fits (s .rows)) rows ss bs)
   unfolding allFit
   fit-slots Pairwise.none = tt
@@ -87,8 +91,8 @@ module _ (s : Sheet) where
   last-faultless {result = result} rows a (i ∷ is) c = later-faultless result a i is
 
   code-faultless : {own : Own} {result : Option ℕ} {rows : List ℕ} {is : List Instr} → CodeTyped s own result rows is
-      → Faultless (instrFaults (fits (s .rows)) s own result rows is)
-  unfolding instrFaults
+      → Faultless (codeFaults (typedInstr (fits (s .rows)) s own result) s own rows is)
+  unfolding codeFaults
   code-faultless (end h r) = λ x i. absurd (in-nil i)
   code-faultless {own} {result} {rows} (next {i = i} {is = is} {a = a} h c) =
       let e = instr-faultless h in
@@ -96,7 +100,7 @@ module _ (s : Sheet) where
       (ap (λ (x : Fault). firstOf x (resultFault (fits (s .rows)) result (lastRow (slotRows s own rows (i ∷ is))) is)) (e .0)
       ∙ result-row (fits (s .rows)) s own result rows i is
       ∙ ap (λ (x : ℕ). resultFault (fits (s .rows)) result x is) (e .1) ∙ last-faultless rows a is c)
-      (subst (λ (x : ℕ). Faultless (instrFaults (fits (s .rows)) s own result (rows ++ (x ∷ [])) is)) (sym (e .1)) (code-faultless c))
+      (subst (λ (x : ℕ). Faultless (codeFaults (typedInstr (fits (s .rows)) s own result) s own (rows ++ (x ∷ [])) is)) (sym (e .1)) (code-faultless c))
 
   -- the value of a well-typed body, the last of all its slots, fits the declared result
   pub value-fits : {own : Own} {result : Option ℕ} {rows : List ℕ} {is : List Instr} → CodeTyped s own result rows is
@@ -106,16 +110,16 @@ module _ (s : Sheet) where
   value-fits {own} {result} {rows} (next {is = is} h c) =
       subst (λ (x : ℕ). ResultFits s (lastRow (slotRows s own (rows ++ (x ∷ [])) is)) result) (sym (instr-faultless h .1)) (value-fits c)
 
-  part-faultless : {f : Form} {m : Member} {p : Part} → PartTyped s f m p → Faultless (partFaults (fits (s .rows)) s f m p)
-  part-faultless {f} (typed-init {r = r} {k = k} h) =
+  part-faultless : (n : ℕ) {f : Form} {m : Member} {p : Part} → PartTyped s f m p → Faultless (partFaults ofTyping s n f m p)
+  part-faultless n {f} (typed-init {r = r} {k = k} h) =
       faultless-cons (passed (fits (s .rows) (getD (f .keeps) k 0) r) Misfit (h .fit)) (λ x i. absurd (in-nil i))
-  part-faultless (typed-body c) = faultless-cons refl (code-faultless c)
+  part-faultless n (typed-body c) = faultless-cons refl (code-faultless c)
 
-  parts-faultless : {f : Form} {ms : List Member} {ps : List Part} → Pairwise (PartTyped s f) ms ps → Faultless (partsFaults (fits (s .rows)) s f ms ps)
+  parts-faultless : (n : ℕ) {f : Form} {ms : List Member} {ps : List Part} → Pairwise (PartTyped s f) ms ps → Faultless (partsFaults ofTyping s n f ms ps)
   unfolding partsFaults
-  parts-faultless Pairwise.none = λ x i. absurd (in-nil i)
-  parts-faultless {f} (pair {x = m} {y = p} {xs = ms} {ys = ps} h r) =
-      faultless-append (partFaults (fits (s .rows)) s f m p) (partsFaults (fits (s .rows)) s f ms ps) (part-faultless h) (parts-faultless r)
+  parts-faultless n Pairwise.none = λ x i. absurd (in-nil i)
+  parts-faultless n {f} (pair {x = m} {y = p} {xs = ms} {ys = ps} h r) =
+      faultless-append (partFaults ofTyping s n f m p) (partsFaults ofTyping s n f ms ps) (part-faultless n h) (parts-faultless n r)
 
   -- a test of the form `not (pure and b)` passes where pure excludes b
   excludes : (a b : Bool) → (T a → T b → ⊥) → T (not (a && b))
@@ -128,8 +132,7 @@ module _ (s : Sheet) where
   not-not false t u = t
 
   keeps-faultless : (a : Row) (ks : List ℕ) → (T (isPure (a .kind)) → (k : ℕ) → In k ks → T (isPure ((rowAt (s .rows) k) .kind)))
-      → Faultless (keepFaults s a ks)
-  unfolding keepFaults
+      → Faultless (map (keepFault s a) ks)
   keeps-faultless a [] h = λ x i. absurd (in-nil i)
   keeps-faultless a (k ∷ ks) h =
       let b : Bool = isPure ((rowAt (s .rows) k) .kind) in
@@ -137,26 +140,26 @@ module _ (s : Sheet) where
       (passed (not (isPure (a .kind) && not b)) ImpureForm (excludes (isPure (a .kind)) (not b) (λ p. not-not b (h p k (here refl)))))
       (keeps-faultless a ks (λ p j i. h p j (there i)))
 
-  form-faultless : (f : Form) → FormTyped s f → Faultless (formFaults (fits (s .rows)) s f)
-  form-faultless f h =
+  form-faultless : (n : ℕ) (f : Form) → FormTyped s f → Faultless (formFaults ofTyping s n f)
+  form-faultless n f h =
       let a : Row = rowAt (s .rows) (f .row) in
       faultless-cons (passed (not (isPure (a .kind) && hasField (a .members))) ImpureForm (excludes (isPure (a .kind)) (hasField (a .members)) (λ p. h .pure p .noField)))
-      (faultless-append (keepFaults s a (f .keeps)) (partsFaults (fits (s .rows)) s f (a .members) (f .parts))
-      (keeps-faultless a (f .keeps) (λ p. h .pure p .pureKeeps)) (parts-faultless (h .parts)))
+      (faultless-append (keepFaults ofTyping n f) (partsFaults ofTyping s n f (a .members) (f .parts))
+      (keeps-faultless a (f .keeps) (λ p. h .pure p .pureKeeps)) (parts-faultless n (h .parts)))
 
-  forms-faultless : (fs : List Form) → ((f : Form) → In f fs → FormTyped s f) → Faultless (formsFaults (fits (s .rows)) s fs)
+  forms-faultless : (n : ℕ) (fs : List Form) → ((f : Form) → In f fs → FormTyped s f) → Faultless (formsFaults ofTyping s n fs)
   unfolding formsFaults
-  forms-faultless [] h = λ x i. absurd (in-nil i)
-  forms-faultless (f ∷ fs) h =
-      faultless-append (formFaults (fits (s .rows)) s f) (formsFaults (fits (s .rows)) s fs) (form-faultless f (h f (here refl)))
-      (forms-faultless fs (λ g i. h g (there i)))
+  forms-faultless n [] h = λ x i. absurd (in-nil i)
+  forms-faultless n (f ∷ fs) h =
+      faultless-append (formFaults ofTyping s n f) (formsFaults ofTyping s (suc n) fs) (form-faultless n f (h f (here refl)))
+      (forms-faultless (suc n) fs (λ g i. h g (there i)))
 
   pub typed-accepted : Typed s → typing s ≡ Accepted
   unfolding typing lineFaults
   typed-accepted t =
-      firstFault-accepts (firstFormLine s) (lineFaults (fits (s .rows)) s)
-      (faultless-append (formsFaults (fits (s .rows)) s (s .forms)) (none ∷ instrFaults (fits (s .rows)) s none none (mainRows s) (s .main))
-      (forms-faultless (s .forms) (t .forms)) (faultless-cons refl (code-faultless (t .main))))
+      firstFault-accepts (firstFormLine s) (lineFaults ofTyping s)
+      (faultless-append (formsFaults ofTyping s 0 (s .forms)) (none ∷ codeFaults (ofTyping .ofMain) s none (mainRows s) (s .main))
+      (forms-faultless 0 (s .forms) (t .forms)) (faultless-cons refl (code-faultless (t .main))))
 
   -- of the sheets that reading gives, the verdict accepts exactly the well-typed ones
   pub accepted-exactly : WellFormed s → (typing s ≡ Accepted) ↔ Typed s

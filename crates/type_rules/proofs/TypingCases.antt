@@ -1,11 +1,14 @@
--- Computed cases of fit and typing: the six rows that document 01 runs as tests, and a sheet for each refusal from 8 to 10.
--- Assumes nothing.
+-- Computed cases of fit and typing: the six rows that document 01 runs as tests, a sheet for each refusal from 8 to 10, and the walk
+-- over lines with other judges than typing's. Assumes nothing.
 use Prim.Native.Nat.{ℕ}
 use Prim.Native.String.{String}
 use mathlib.Core.Path.{_≡_, refl}
+use mathlib.Core.Bool.{Bool, true, not}
 use mathlib.Core.List.{List, [], _∷_, map}
+use mathlib.Core.Option.{none}
+use lib.Dec.{eqb}
 use Rattle.sheet_rules.specs.declared.FitAnswer.the-variants.{Yes, WrongKind, Unmet}
-use Rattle.sheet_rules.specs.declared.Reason.the-variants.{NotDefined}
+use Rattle.sheet_rules.specs.declared.Reason.the-variants.{NotDefined, Misfit}
 use Rattle.sheet_rules.specs.Answers.{verdictNumber, verdictLine}
 use Rattle.sheet_rules.specs.Sheet.{Row}
 use Rattle.sheet_rules.specs.Reading.{Meaning, readable, unreadable, meaning}
@@ -14,7 +17,7 @@ use Rattle.type_rules.specs.declared.FitReply.{FitReply}
 use Rattle.type_rules.specs.declared.FitReply.the-variants.{Fits, FitsNot, Refused}
 use Rattle.type_rules.specs.Fit.{fitAnswer}
 use Rattle.type_rules.specs.FitQuestion.{fitReply}
-use Rattle.type_rules.specs.Typing.{verdict}
+use Rattle.type_rules.specs.Typing.{unless, LineJudge, lineFaults, firstFault, firstFormLine, verdictOn, verdict}
 use Rattle.type_rules.proofs.Opened.{judging}
 
 -- FIT
@@ -174,3 +177,29 @@ pub all :
     ≡ map (λ c. c .wanted) cases
 unfolding judging
 all = refl
+
+-- THE SAME WALK WITH OTHER JUDGES
+
+-- a judge that asks of a form's number on its `form` line, and of a method's name on its body's lines
+abbrev asking : (ℕ → Bool) → (ℕ → Bool) → LineJudge
+asking form method =
+    record {
+      ofForm = λ n f. unless (form n) Misfit;
+      ofKeep = λ n f k. none;
+      ofInit = λ n f m r k. none;
+      ofBody = λ n f m r rows i is. unless (method m) Misfit;
+      ofMain = λ rows i is. none;
+    }
+
+-- the line of the kitchen that such a judge refuses
+abbrev lineBy : (ℕ → Bool) → (ℕ → Bool) → ℕ
+lineBy form method = verdictLine (verdictOn (λ s. firstFault (firstFormLine s) (lineFaults (asking form method) s)) (meaning (textOf kitchen)))
+
+-- each form on its own line, and there is no form 4; methods 1 and 2 on their bodies' first lines, and there is no method 3
+pub judged-by-number : map (λ k. lineBy (λ n. not (eqb n k)) (λ m. true)) (0 ∷ 1 ∷ 2 ∷ 3 ∷ 4 ∷ []) ≡ 11 ∷ 12 ∷ 18 ∷ 23 ∷ 0 ∷ []
+unfolding judging
+judged-by-number = refl
+
+pub judged-by-name : map (λ k. lineBy (λ n. true) (λ m. not (eqb m k))) (1 ∷ 2 ∷ 3 ∷ []) ≡ 21 ∷ 16 ∷ 0 ∷ []
+unfolding judging
+judged-by-name = refl

@@ -3,7 +3,7 @@ use Prim.Native.Nat.{ℕ, suc, pred, _<_}
 use native.Mathlib.Omega.{arith}
 use mathlib.Core.Path.{_≡_, refl, sym, ap, _∙_, subst}
 use mathlib.Core.Bool.{Bool, true, false, not, _&&_}
-use mathlib.Core.List.{List, [], _∷_, _++_}
+use mathlib.Core.List.{List, [], _∷_, _++_, map}
 use mathlib.Core.Option.{Option, none, some}
 use lib.Dec.{T, T-not, ltb, ltb→lt}
 use lib.ListN.{length, getD, length-append}
@@ -24,7 +24,7 @@ use Rattle.sheet_rules.specs.Reading.{Meaning, readable, unreadable}
 use Rattle.sheet_rules.specs.WellFormed.{Scoped, WellFormedBody, PartOf, WellFormedForm, WellFormed}
 use Rattle.sheet_rules.proofs.FormLinesLaws.{first-below, others-below}
 use Rattle.type_rules.specs.Fit.{fits}
-use Rattle.type_rules.specs.Typing.{Signature, methodIn, membersAt, Own, ownField, resultOf, rowOr0, slotRow, slotRows, lastRow, bodyRows, mainRows, Fault, unless, firstOf, allFit, callFault, getFault, putFault, instrFault, resultFault, instrFaults, partFaults, partsFaults, isPure, hasField, keepFaults, formFaults, formsFaults, lineFaults, firstFault, firstFormLine, typing, verdictOn, ifAccepted, acceptedOn}
+use Rattle.type_rules.specs.Typing.{Signature, methodIn, membersAt, Own, ownField, resultOf, rowOr0, slotRow, slotRows, lastRow, bodyRows, mainRows, Fault, unless, firstOf, allFit, callFault, getFault, putFault, instrFault, resultFault, isPure, hasField, keepFault, LineJudge, codeFaults, partFaults, partsFaults, keepFaults, formFaults, formsFaults, lineFaults, typedInstr, typedLines, firstFault, firstFormLine, typing, verdictOn, ifAccepted, acceptedOn}
 use Rattle.type_rules.specs.Typed.{SlotFits, InstrTyped, typed-new, typed-call, typed-get, typed-put, typed-copy, ResultFits, undeclared, declared, CodeTyped, end, next, PartTyped, typed-init, typed-body, FormTyped, Typed}
 
 -- lines without a fault
@@ -58,6 +58,10 @@ result-row fit s own (some r) rows i [] = ap (λ (a : ℕ). unless (fit a r) Mis
 result-row fit s own (some r) rows i (j ∷ is) = refl
 
 module _ (s : Sheet) where
+  -- typing's judge of the sheet's lines
+  abbrev ofTyping : LineJudge
+  ofTyping = typedLines (fits (s .rows)) s
+
   -- INSTRUCTIONS
 
   fit-passed : (a b : ℕ) → unless (fits (s .rows) a b) Misfit ≡ none → T (fits (s .rows) a b)
@@ -110,15 +114,15 @@ module _ (s : Sheet) where
 
   -- the first line of some instructions passed, with its result if it is the last
   first-typed : (own : Own) (result : Option ℕ) (rows : List ℕ) (i : Instr) (is : List Instr) → T (namesExist (length (s .forms)) (length rows) i)
-      → firstOf (instrFault (fits (s .rows)) s own rows i) (resultFault (fits (s .rows)) result (lastRow (slotRows s own rows (i ∷ is))) is) ≡ none
+      → typedInstr (fits (s .rows)) s own result rows i is ≡ none
       → InstrTyped s own rows i (slotRow s own rows i) × (resultFault (fits (s .rows)) result (slotRow s own rows i) is ≡ none)
   first-typed own result rows i is t e =
       let p = firstOf-none (instrFault (fits (s .rows)) s own rows i) (resultFault (fits (s .rows)) result (lastRow (slotRows s own rows (i ∷ is))) is) e in
       (instr-typed own rows i t (p .0), sym (result-row (fits (s .rows)) s own result rows i is) ∙ p .1)
 
   code-typed : (own : Own) (result : Option ℕ) (rows : List ℕ) (i : Instr) (is : List Instr) → Scoped (length (s .forms)) (length rows) (i ∷ is)
-      → Faultless (instrFaults (fits (s .rows)) s own result rows (i ∷ is)) → CodeTyped s own result rows (i ∷ is)
-  unfolding instrFaults
+      → Faultless (codeFaults (typedInstr (fits (s .rows)) s own result) s own rows (i ∷ is)) → CodeTyped s own result rows (i ∷ is)
+  unfolding codeFaults
   code-typed own result rows i [] (Scoped.next t r) h =
       let p = first-typed own result rows i [] (t .exist) (h _ (here refl)) in
       let a : ℕ = slotRow s own rows i in
@@ -133,32 +137,31 @@ module _ (s : Sheet) where
       (code-typed own result (rows ++ (a ∷ [])) j is (subst (λ (k : ℕ). Scoped (length (s .forms)) k (j ∷ is)) e r) (λ g k. h g (there k)))
 
   body-typed : (own : Own) (result : Option ℕ) (rows : List ℕ) (is : List Instr) → WellFormedBody (length (s .forms)) (length rows) is
-      → Faultless (instrFaults (fits (s .rows)) s own result rows is) → CodeTyped s own result rows is
+      → Faultless (codeFaults (typedInstr (fits (s .rows)) s own result) s own rows is) → CodeTyped s own result rows is
   body-typed own result rows [] w h = absurd (omega (arith, w .some))
   body-typed own result rows (i ∷ is) w h = code-typed own result rows i is (w .scoped) h
 
   -- FORMS
 
-  part-typed : (f : Form) (m : Member) (p : Part) → PartOf (length (s .forms)) (length (f .keeps)) m p → Faultless (partFaults (fits (s .rows)) s f m p) → PartTyped s f m p
-  part-typed f (Field n r) (init k) (PartOf.field b) h =
+  part-typed : (n : ℕ) (f : Form) (m : Member) (p : Part) → PartOf (length (s .forms)) (length (f .keeps)) m p → Faultless (partFaults ofTyping s n f m p) → PartTyped s f m p
+  part-typed n f (Field m r) (init k) (PartOf.field b) h =
       typed-init (record { filled = b; fit = fit-passed (getD (f .keeps) k 0) r (h _ (here refl)) })
-  part-typed f (Method n a r) (body is) (PartOf.method w) h =
+  part-typed n f (Method m a r) (body is) (PartOf.method w) h =
       typed-body (body-typed (some (f .row)) (some r) (bodyRows f a) is w (λ g i. h g (there i)))
 
-  parts-typed : (f : Form) (ms : List Member) (ps : List Part) → Pairwise (PartOf (length (s .forms)) (length (f .keeps))) ms ps
-      → Faultless (partsFaults (fits (s .rows)) s f ms ps) → Pairwise (PartTyped s f) ms ps
+  parts-typed : (n : ℕ) (f : Form) (ms : List Member) (ps : List Part) → Pairwise (PartOf (length (s .forms)) (length (f .keeps))) ms ps
+      → Faultless (partsFaults ofTyping s n f ms ps) → Pairwise (PartTyped s f) ms ps
   unfolding partsFaults
-  parts-typed f [] [] Pairwise.none h = Pairwise.none
-  parts-typed f (m ∷ ms) (p ∷ ps) (pair o r) h =
-      pair (part-typed f m p o (λ g i. h g (in-left (partFaults (fits (s .rows)) s f m p) (partsFaults (fits (s .rows)) s f ms ps) i)))
-      (parts-typed f ms ps r (λ g i. h g (in-right (partFaults (fits (s .rows)) s f m p) (partsFaults (fits (s .rows)) s f ms ps) i)))
+  parts-typed n f [] [] Pairwise.none h = Pairwise.none
+  parts-typed n f (m ∷ ms) (p ∷ ps) (pair o r) h =
+      pair (part-typed n f m p o (λ g i. h g (in-left (partFaults ofTyping s n f m p) (partsFaults ofTyping s n f ms ps) i)))
+      (parts-typed n f ms ps r (λ g i. h g (in-right (partFaults ofTyping s n f m p) (partsFaults ofTyping s n f ms ps) i)))
 
   -- a test of the form `not (pure and b)` that passed: where pure is asked, b fails
   pure-not : (a b : Bool) → T (not (a && b)) → T a → T b → ⊥
   pure-not a b t u v = T-not (a && b) t (and-intro a b u v)
 
-  keeps-pure : (a : Row) (ks : List ℕ) → Faultless (keepFaults s a ks) → T (isPure (a .kind)) → (k : ℕ) → In k ks → T (isPure ((rowAt (s .rows) k) .kind))
-  unfolding keepFaults
+  keeps-pure : (a : Row) (ks : List ℕ) → Faultless (map (keepFault s a) ks) → T (isPure (a .kind)) → (k : ℕ) → In k ks → T (isPure ((rowAt (s .rows) k) .kind))
   keeps-pure a [] h t k i = elim i [ ]
   keeps-pure a (x ∷ ks) h t k (here e) =
       subst (λ (y : ℕ). T (isPure ((rowAt (s .rows) y) .kind))) (sym e)
@@ -172,50 +175,52 @@ module _ (s : Sheet) where
       kept false u = pure-not (isPure (a .kind)) true u t tt
   keeps-pure a (x ∷ ks) h t k (there i) = keeps-pure a ks (λ g j. h g (there j)) t k i
 
-  form-typed : (f : Form) → WellFormedForm (s .rows) (length (s .forms)) f → Faultless (formFaults (fits (s .rows)) s f) → FormTyped s f
-  form-typed f w h =
+  form-typed : (n : ℕ) (f : Form) → WellFormedForm (s .rows) (length (s .forms)) f → Faultless (formFaults ofTyping s n f) → FormTyped s f
+  form-typed n f w h =
       record {
         pure = λ t. record {
           noField = pure-not (isPure (a .kind)) (hasField (a .members)) (unless-passed (not (isPure (a .kind) && hasField (a .members))) ImpureForm (h _ (here refl))) t;
           pureKeeps = keeps-pure a (f .keeps) (λ g i. h g (there (in-left keepLines partLines i))) t;
         };
-        parts = parts-typed f (a .members) (f .parts) (w .parts) (λ g i. h g (there (in-right keepLines partLines i)));
+        parts = parts-typed n f (a .members) (f .parts) (w .parts) (λ g i. h g (there (in-right keepLines partLines i)));
       }
     where
       a : Row
       a = rowAt (s .rows) (f .row)
 
       keepLines : List Fault
-      keepLines = keepFaults s a (f .keeps)
+      keepLines = keepFaults ofTyping n f
 
       partLines : List Fault
-      partLines = partsFaults (fits (s .rows)) s f (a .members) (f .parts)
+      partLines = partsFaults ofTyping s n f (a .members) (f .parts)
 
-  form-faults : (fs : List Form) → Faultless (formsFaults (fits (s .rows)) s fs) → (f : Form) → In f fs → Faultless (formFaults (fits (s .rows)) s f)
+  forms-typed : (n : ℕ) (fs : List Form) → ((f : Form) → In f fs → WellFormedForm (s .rows) (length (s .forms)) f)
+      → Faultless (formsFaults ofTyping s n fs) → (f : Form) → In f fs → FormTyped s f
   unfolding formsFaults
-  form-faults [] h f i x j = elim i [ ]
-  form-faults (g ∷ fs) h f (here e) x i =
-      h x (in-left (formFaults (fits (s .rows)) s g) (formsFaults (fits (s .rows)) s fs) (subst (λ (k : Form). In x (formFaults (fits (s .rows)) s k)) e i))
-  form-faults (g ∷ fs) h f (there j) x i =
-      form-faults fs (λ y k. h y (in-right (formFaults (fits (s .rows)) s g) (formsFaults (fits (s .rows)) s fs) k)) f j x i
+  forms-typed n [] w h f i = elim i [ ]
+  forms-typed n (g ∷ fs) w h f (here e) =
+      subst (FormTyped s) (sym e)
+      (form-typed n g (w g (here refl)) (λ x i. h x (in-left (formFaults ofTyping s n g) (formsFaults ofTyping s (suc n) fs) i)))
+  forms-typed n (g ∷ fs) w h f (there j) =
+      forms-typed (suc n) fs (λ x i. w x (there i)) (λ x i. h x (in-right (formFaults ofTyping s n g) (formsFaults ofTyping s (suc n) fs) i)) f j
 
   -- a readable sheet that the verdict accepts is well typed
   pub accepted-typed : WellFormed s → typing s ≡ Accepted → Typed s
   unfolding typing lineFaults
   accepted-typed w e =
       record {
-        forms = λ f i. form-typed f (w .forms f i) (form-faults (s .forms) (λ g j. all g (in-left formLines mainLines j)) f i);
+        forms = forms-typed 0 (s .forms) (w .forms) (λ g j. all g (in-left formLines mainLines j));
         main = body-typed none none (mainRows s) (s .main) (w .main) (λ g j. all g (in-right formLines mainLines (there j)));
       }
     where
       formLines : List Fault
-      formLines = formsFaults (fits (s .rows)) s (s .forms)
+      formLines = formsFaults ofTyping s 0 (s .forms)
 
       mainLines : List Fault
-      mainLines = none ∷ instrFaults (fits (s .rows)) s none none (mainRows s) (s .main)
+      mainLines = none ∷ codeFaults (ofTyping .ofMain) s none (mainRows s) (s .main)
 
-      all : Faultless (lineFaults (fits (s .rows)) s)
-      all = firstFault-faultless (firstFormLine s) (lineFaults (fits (s .rows)) s) e
+      all : Faultless (lineFaults ofTyping s)
+      all = firstFault-faultless (firstFormLine s) (lineFaults ofTyping s) e
 
 -- WHAT GOES ON FROM THE VERDICT
 

@@ -1,5 +1,6 @@
 -- The typing verdict: a list with the fault, if any, of each line from the first `form` line on, and the first of these
--- (document 01, Fit and typing; Turned away, 8 to 10). Stands on Fit and on the sheet; no rule looks at bytes.
+-- (document 01, Fit and typing; Turned away, 8 to 10). The list is made by any judge of lines; typing's is one. Stands on Fit and
+-- on the sheet; no rule looks at bytes.
 use Prim.Native.Nat.{ℕ, suc, pred, _+_}
 use mathlib.Core.Bool.{Bool, true, false, not, cond, _&&_}
 use mathlib.Core.List.{List, [], _∷_, _++_, map}
@@ -147,27 +148,9 @@ resultFault fit none a is = none
 resultFault fit (some r) a [] = unless (fit a r) Misfit
 resultFault fit (some r) a (i ∷ is) = none
 
--- the lines of some instructions, each after the slots that those before it leave; the value is the last of all slots
--- (Fit and typing)
-unfoldable pub instrFaults : (ℕ → ℕ → Bool) → Sheet → Own → Option ℕ → List ℕ → List Instr → List Fault
-instrFaults fit s own result rows [] = []
-instrFaults fit s own result rows (i ∷ is) =
-    firstOf (instrFault fit s own rows i) (resultFault fit result (lastRow (slotRows s own rows (i ∷ is))) is)
-    ∷ instrFaults fit s own result (rowsAfter s own rows i) is
-
--- the lines of a form's part for a member: `init`, or `body` and its instructions; reading gives each member its own kind
--- (Fit and typing)
-abbrev pub partFaults : (ℕ → ℕ → Bool) → Sheet → Form → Member → Part → List Fault
-partFaults fit s f (Field n r) (init k) = unless (fit (getD (f .keeps) k 0) r) Misfit ∷ []
-partFaults fit s f (Method n a r) (body is) = none ∷ instrFaults fit s (some (f .row)) (some r) (bodyRows f a) is
-partFaults fit s f (Field n r) (body is) = []
-partFaults fit s f (Method n a r) (init k) = []
-
--- the lines of a form's parts (Fit and typing)
-unfoldable pub partsFaults : (ℕ → ℕ → Bool) → Sheet → Form → List Member → List Part → List Fault
-partsFaults fit s f [] ps = []
-partsFaults fit s f (m ∷ ms) [] = []
-partsFaults fit s f (m ∷ ms) (p ∷ ps) = partFaults fit s f m p ++ partsFaults fit s f ms ps
+-- a field starts as a kept value, of number k, which must fit its row (Fit and typing)
+abbrev pub initFault : (ℕ → ℕ → Bool) → Form → (row k : ℕ) → Fault
+initFault fit f row k = unless (fit (getD (f .keeps) k 0) row) Misfit
 
 -- a kind is pure (Fit and typing)
 abbrev pub isPure : Kind → Bool
@@ -188,25 +171,75 @@ formFault a = unless (not (isPure (a .kind) && hasField (a .members))) ImpureFor
 abbrev pub keepFault : Sheet → Row → ℕ → Fault
 keepFault s a k = unless (not (isPure (a .kind) && not (isPure ((rowAt (s .rows) k) .kind)))) ImpureForm
 
+-- A JUDGE OF LINES
+
+-- a judge of instructions: the fault of one, after slots of the given rows and before the instructions that are left (Turned away)
+abbrev pub InstrJudge : Type 0
+InstrJudge = List ℕ → Instr → List Instr → Fault
+
+-- a judge of lines: the fault, if any, of each kind of line, a form's with the form's number in hand; `body` and `main` lines have
+-- none (Turned away)
+pub record LineJudge : Type 0 where
+  pub ofForm : (number : ℕ) → Form → Fault
+  pub ofKeep : (number : ℕ) → Form → (row : ℕ) → Fault
+  pub ofInit : (number : ℕ) → Form → (name row kept : ℕ) → Fault
+  pub ofBody : (number : ℕ) → Form → (name result : ℕ) → InstrJudge
+  pub ofMain : InstrJudge
+
+-- the lines of some instructions, each after the slots that those before it leave (Fit and typing)
+unfoldable pub codeFaults : InstrJudge → Sheet → Own → List ℕ → List Instr → List Fault
+codeFaults judge s own rows [] = []
+codeFaults judge s own rows (i ∷ is) = judge rows i is ∷ codeFaults judge s own (rowsAfter s own rows i) is
+
+-- the lines of a form's part for a member: `init`, or `body` and its instructions; reading gives each member its own kind
+-- (Fit and typing)
+abbrev pub partFaults : LineJudge → Sheet → (number : ℕ) → Form → Member → Part → List Fault
+partFaults judge s n f (Field m r) (init k) = judge .ofInit n f m r k ∷ []
+partFaults judge s n f (Method m a r) (body is) = none ∷ codeFaults (judge .ofBody n f m r) s (some (f .row)) (bodyRows f a) is
+partFaults judge s n f (Field m r) (body is) = []
+partFaults judge s n f (Method m a r) (init k) = []
+
+-- the lines of a form's parts (Fit and typing)
+unfoldable pub partsFaults : LineJudge → Sheet → (number : ℕ) → Form → List Member → List Part → List Fault
+partsFaults judge s n f [] ps = []
+partsFaults judge s n f (m ∷ ms) [] = []
+partsFaults judge s n f (m ∷ ms) (p ∷ ps) = partFaults judge s n f m p ++ partsFaults judge s n f ms ps
+
 -- the `keep` lines of a form (Turned away, 8)
-unfoldable pub keepFaults : Sheet → Row → List ℕ → List Fault
-keepFaults s a [] = []
-keepFaults s a (k ∷ ks) = keepFault s a k ∷ keepFaults s a ks
+abbrev pub keepFaults : LineJudge → (number : ℕ) → Form → List Fault
+keepFaults judge n f = map (judge .ofKeep n f) (f .keeps)
 
 -- the lines of a form (Fit and typing)
-abbrev pub formFaults : (ℕ → ℕ → Bool) → Sheet → Form → List Fault
-formFaults fit s f =
-    formFault (rowAt (s .rows) (f .row))
-    ∷ (keepFaults s (rowAt (s .rows) (f .row)) (f .keeps) ++ partsFaults fit s f (membersAt s (f .row)) (f .parts))
+abbrev pub formFaults : LineJudge → Sheet → (number : ℕ) → Form → List Fault
+formFaults judge s n f =
+    judge .ofForm n f ∷ (keepFaults judge n f ++ partsFaults judge s n f (membersAt s (f .row)) (f .parts))
 
--- the lines of some forms (Fit and typing)
-unfoldable pub formsFaults : (ℕ → ℕ → Bool) → Sheet → List Form → List Fault
-formsFaults fit s [] = []
-formsFaults fit s (f ∷ fs) = formFaults fit s f ++ formsFaults fit s fs
+-- the lines of some forms, numbered from n (Fit and typing)
+unfoldable pub formsFaults : LineJudge → Sheet → ℕ → List Form → List Fault
+formsFaults judge s n [] = []
+formsFaults judge s n (f ∷ fs) = formFaults judge s n f ++ formsFaults judge s (suc n) fs
 
 -- all lines from the first `form` line on: forms, the `main` line, main's instructions (Fit and typing)
-unfoldable pub lineFaults : (ℕ → ℕ → Bool) → Sheet → List Fault
-lineFaults fit s = formsFaults fit s (s .forms) ++ (none ∷ instrFaults fit s none none (mainRows s) (s .main))
+unfoldable pub lineFaults : LineJudge → Sheet → List Fault
+lineFaults judge s = formsFaults judge s 0 (s .forms) ++ (none ∷ codeFaults (judge .ofMain) s none (mainRows s) (s .main))
+
+-- TYPING'S OWN JUDGE
+
+-- an instruction by its own rule, then the body's value, the last of all slots, by the declared result (Fit and typing)
+abbrev pub typedInstr : (ℕ → ℕ → Bool) → Sheet → Own → Option ℕ → InstrJudge
+typedInstr fit s own result rows i is =
+    firstOf (instrFault fit s own rows i) (resultFault fit result (lastRow (slotRows s own rows (i ∷ is))) is)
+
+-- each line by its rule; typing asks for no form's number and no member's name (Fit and typing)
+abbrev pub typedLines : (ℕ → ℕ → Bool) → Sheet → LineJudge
+typedLines fit s =
+    record {
+      ofForm = λ n f. formFault (rowAt (s .rows) (f .row));
+      ofKeep = λ n f k. keepFault s (rowAt (s .rows) (f .row)) k;
+      ofInit = λ n f m row k. initFault fit f row k;
+      ofBody = λ n f m result. typedInstr fit s (some (f .row)) (some result);
+      ofMain = typedInstr fit s none none;
+    }
 
 -- THE VERDICT
 
@@ -227,7 +260,7 @@ firstFormLine s = rowLines (s .rows) + 3
 
 -- the typing verdict on a sheet that was read (Fit and typing)
 unfoldable pub typing : Sheet → Verdict
-typing s = firstFault (firstFormLine s) (lineFaults (fits (s .rows)) s)
+typing s = firstFault (firstFormLine s) (lineFaults (typedLines (fits (s .rows)) s) s)
 
 -- the verdict on what reading gave, by a judge of sheets: only a sheet that was read whole is judged (Turned away)
 abbrev pub verdictOn : (Sheet → Verdict) → Meaning → Verdict

@@ -4,18 +4,17 @@ use mathlib.Core.Path.{_≡_}
 use mathlib.Core.List.{List, _∷_}
 use mathlib.Core.Option.{none}
 use Rattle.sheet_rules.specs.declared.Verdict.{Verdict}
-use Rattle.type_rules.specs.Typing.{Fault, formsFaults, instrFaults, slotRows, mainRows, lineFaults, firstFormLine, firstFault}
+use Rattle.type_rules.specs.Typing.{Fault, slotRows, mainRows, codeFaults, formsFaults, lineFaults, firstFormLine, firstFault}
 use Rattle.table.specs.View.{sheetIn}
-use Rattle.fit.specs.Told.{tells}
 use Rattle.code_typing.specs.declared.Walked.{Walked}
-use Rattle.code_typing.specs.Told.{OnlySlots, LinesJudged}
+use Rattle.code_typing.specs.Told.{judgeIn, OnlySlots, LinesJudged}
 
 -- the lines of all forms, and of main, by the table's word on fit; and the rows of all slots of main
 abbrev pub formsFaultsIn : List ℕ → List Fault
-formsFaultsIn w = formsFaults (tells w) (sheetIn w) ((sheetIn w) .forms)
+formsFaultsIn w = formsFaults (judgeIn w) (sheetIn w) 0 ((sheetIn w) .forms)
 
 abbrev pub mainFaultsIn : List ℕ → List Fault
-mainFaultsIn w = none ∷ instrFaults (tells w) (sheetIn w) none none (mainRows (sheetIn w)) ((sheetIn w) .main)
+mainFaultsIn w = none ∷ codeFaults ((judgeIn w) .ofMain) (sheetIn w) none (mainRows (sheetIn w)) ((sheetIn w) .main)
 
 abbrev pub mainSlotRows : List ℕ → List ℕ
 mainSlotRows w = slotRows (sheetIn w) none (mainRows (sheetIn w)) ((sheetIn w) .main)
@@ -27,5 +26,5 @@ pub record FormsJudged (first : ℕ) (w w′ : List ℕ) (r : Walked) : Type 0 w
 
 -- the verdict on the sheet in the table is the rule's, by the table's word on fit, and only rows of slots have changed
 pub record SheetJudged (w w′ : List ℕ) (v : Verdict) : Type 0 where
-  pub told : v ≡ firstFault (firstFormLine (sheetIn w)) (lineFaults (tells w) (sheetIn w))
+  pub told : v ≡ firstFault (firstFormLine (sheetIn w)) (lineFaults (judgeIn w) (sheetIn w))
   pub only : OnlySlots w w′

@@ -9,10 +9,11 @@ use borrow.Author.Tests.{le-leb}
 use Rattle.sheet_rules.specs.declared.Reason.{Reason}
 use Rattle.sheet_rules.specs.declared.Reason.the-variants.{BufferTooShort}
 use Rattle.sheet_rules.specs.declared.Verdict.{Verdict}
+use Rattle.sheet_rules.specs.Sheet.{Sheet}
 use Rattle.sheet_rules.specs.Reading.{readable, unreadable, meaning}
 use Rattle.sheet_rules.specs.WellFormed.{WellFormed}
 use Rattle.type_rules.specs.Fit.{fits}
-use Rattle.type_rules.specs.Typing.{lineFaults, firstFormLine, firstFault, typing, verdictOn, verdict}
+use Rattle.type_rules.specs.Typing.{lineFaults, typedLines, firstFormLine, firstFault, typing, verdictOn, verdict}
 use Rattle.type_rules.proofs.AgreeLaws.{faults-agree}
 use Rattle.table.specs.Layout.{rowCountAt, workSize}
 use Rattle.table.specs.View.{cell, sheetIn}
@@ -27,18 +28,19 @@ use Rattle.reader.proofs.MainLaws.{not-accepted}
 use Rattle.reader.proofs.SheetLaws.{read-means, read-wellFormed}
 use Rattle.fit.specs.Told.{tells, Comparable, FitFilled}
 use Rattle.fit.proofs.SheetLaws.{sheet-comparable, filled-sheet, sheet-tells}
+use Rattle.code_typing.specs.Told.{judgeIn}
 use Rattle.code_typing.proofs.CodeLaws.{slots-sheet}
 use Rattle.typing.specs.Told.{SheetJudged}
 use Rattle.verdict_question.specs.Asked.{TextJudged}
 
-module _ (text w w₁ : List ℕ) (v : Verdict) (size : workSize ≤ length w) (s : SheetRead text w w₁ v) where
+module _ {text w w₁ : List ℕ} {v : Verdict} (size : workSize ≤ length w) (s : SheetRead text w w₁ v) where
   read-only : Only 0 workSize w w₁
   read-only = only-widen (omega arith) (omega arith) (s .only)
 
   -- a text that is refused at reading
-  pub text-refused : (q : Reason) (l : ℕ) → v ≡ Verdict.Refused q l → TextJudged text w w₁ v
+  pub text-refused : {q : Reason} {l : ℕ} → v ≡ Verdict.Refused q l → TextJudged text w w₁ v
   unfolding verdict
-  text-refused q l e =
+  text-refused {q} {l} e =
       record {
         answered =
             record {
@@ -50,8 +52,8 @@ module _ (text w w₁ : List ℕ) (v : Verdict) (size : workSize ≤ length w) (
               written = refl;
               only = read-only;
             };
-        sheet = not-accepted q l v e;
-        accepted = not-accepted q l v e;
+        sheet = not-accepted e;
+        accepted = not-accepted e;
       }
 
   module _ (e : v ≡ Verdict.Accepted) where
@@ -67,11 +69,11 @@ module _ (text w w₁ : List ℕ) (v : Verdict) (size : workSize ≤ length w) (
     size₁ : workSize ≤ length w₁
     size₁ = omega (arith, s .only .size)
 
-    pub fill-comparable : (rows : ℕ) → rows ≡ cell w₁ rowCountAt → Comparable rows w₁
-    fill-comparable rows n = subst (λ (k : ℕ). Comparable k w₁) (sym n) (sheet-comparable w₁ size₁ well)
+    pub fill-comparable : {rows : ℕ} → rows ≡ cell w₁ rowCountAt → Comparable rows w₁
+    fill-comparable n = subst (λ (k : ℕ). Comparable k w₁) (sym n) (sheet-comparable w₁ size₁ well)
 
     -- with the fit table filled
-    module _ (rows : ℕ) (rows-are : rows ≡ cell w₁ rowCountAt) (w₂ : List ℕ) (f : FitFilled rows w₁ w₂) where
+    module _ {rows : ℕ} (rows-are : rows ≡ cell w₁ rowCountAt) {w₂ : List ℕ} (f : FitFilled rows w₁ w₂) where
       same-sheet : sheetIn w₂ ≡ sheetIn w₁
       same-sheet = filled-sheet rows w₁ w₂ f
 
@@ -82,17 +84,17 @@ module _ (text w w₁ : List ℕ) (v : Verdict) (size : workSize ≤ length w) (
       agree a b h k =
           sheet-tells w₁ w₂ (subst (λ (n : ℕ). FitFilled n w₁ w₂) rows-are f) a b (omega (arith, rows-length w₁)) (omega (arith, rows-length w₁))
 
-      faults-are : lineFaults (tells w₂) (sheetIn w₂) ≡ lineFaults (fits ((sheetIn w₁) .rows)) (sheetIn w₁)
-      faults-are = ap (lineFaults (tells w₂)) same-sheet ∙ faults-agree (sheetIn w₁) well (tells w₂) (fits ((sheetIn w₁) .rows)) agree
+      faults-are : lineFaults (judgeIn w₂) (sheetIn w₂) ≡ lineFaults (typedLines (fits ((sheetIn w₁) .rows)) (sheetIn w₁)) (sheetIn w₁)
+      faults-are = ap (λ (x : Sheet). lineFaults (typedLines (tells w₂) x) x) same-sheet ∙ faults-agree well agree
 
-      rule : firstFault (firstFormLine (sheetIn w₂)) (lineFaults (tells w₂) (sheetIn w₂)) ≡ verdict text
+      rule : firstFault (firstFormLine (sheetIn w₂)) (lineFaults (judgeIn w₂) (sheetIn w₂)) ≡ verdict text
       unfolding verdict typing
       rule =
           (λ x. firstFault (firstFormLine (same-sheet x)) (faults-are x))
           ∙ sym (ap (verdictOn typing) means)
 
-      pub text-judged : (w′ : List ℕ) (r : Verdict) → SheetJudged w₂ w′ r → TextJudged text w w′ r
-      text-judged w′ r k =
+      pub text-judged : {w′ : List ℕ} {r : Verdict} → SheetJudged w₂ w′ r → TextJudged text w w′ r
+      text-judged {w′} k =
           record {
             answered =
                 record {
@@ -107,7 +109,7 @@ module _ (text w w₁ : List ℕ) (v : Verdict) (size : workSize ≤ length w) (
           }
         where
           read : meaning text ≡ readable (sheetIn w′)
-          read = means ∙ sym (ap readable (slots-sheet w₂ w′ (k .only) ∙ same-sheet))
+          read = means ∙ sym (ap readable (slots-sheet (k .only) ∙ same-sheet))
 
           table-same : SameTable w₁ w′
           table-same i h = k .only .below i (omega arith) ∙ f .only .below i h

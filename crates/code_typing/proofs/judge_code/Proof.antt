@@ -1,11 +1,7 @@
 use borrow.Author.Needs.{needs}
 use native.Mathlib.Omega.{arith}
-use Prim.Native.Nat.{ℕ, _+_, _-_}
-use lib.Dec.{eqb}
-use mathlib.Core.Path.{refl, ap, _∙_}
-use Rattle.table.specs.View.{instrIn}
+use Prim.Native.Nat.{_-_}
 use Rattle.instr_typing.specs.Told.{rowFound}
-use Rattle.code_typing.specs.Told.{lineJudged}
 use Rattle.code_typing.proofs.CodeLaws.{CodeGoing, slots-whole, code-start, code-end, code-stop, code-next}
 use Rattle.code_typing.proofs.judge_code.Statement.{statement}
 use Rattle.code_typing.proofs.judge_code.Tie as tie
@@ -24,7 +20,7 @@ abbrev μ-loop : tie.MeasureT-loop
 
 -- src/lib.rt:77:5
 loop-holds : tie.Need-loop-holds Inv-loop μ-loop
-loop-holds c = code-start (rowFound (c .before .args .own)) (rowFound (c .before .args .wanted)) (c .before .args .filled) (c .before .args .start) (c .before .args .count) (c .before .args .first) (c .before .args .work .now)
+loop-holds c = code-start
 
 -- src/lib.rt:82:13
 add-judge-line : tie.Need-add-judge-line Inv-loop μ-loop
@@ -36,15 +32,21 @@ wide-requires c κs = search needs
 
 -- src/lib.rt:83:13
 add-judge-line-2 : tie.Need-add-judge-line-2 Inv-loop μ-loop
-add-judge-line-2 c = omega (arith, (c .before .before .before .before .before .pre .1), c .wide .ensures, c .before .before .before .before .before .fits .start, c .before .before .loop-test .taken)
+add-judge-line-2 c =
+    let b = c .before .before .before .before .before in
+    omega (arith, b .pre .1, c .wide .ensures, b .fits .start, c .before .before .loop-test .taken)
 
 -- src/lib.rt:84:13
 add-judge-line-3 : tie.Need-add-judge-line-3 Inv-loop μ-loop
-add-judge-line-3 c = omega (arith, (c .before .before .before .before .before .pre .1), c .before .before .loop-test .taken)
+add-judge-line-3 c =
+    let b = c .before .before .before .before .before in
+    omega (arith, b .pre .1, c .before .before .loop-test .taken)
 
 -- src/lib.rt:78:13
 judge-line-requires : tie.Need-judge-line-requires Inv-loop μ-loop
-judge-line-requires c κs = (omega (arith, (c .before .before .before .before .before .pre .1), c .before .before .loop-test .taken), slots-whole (c .before .before .before .before .before .args .work .now) (c .before .before .before .loop .work) ((c .before .before .before .loop .inv) .only) (c .before .before .before .before .before .pre .0))
+judge-line-requires c κs =
+    let b = c .before .before .before .before .before in
+    (omega (arith, b .pre .1, c .before .before .loop-test .taken), slots-whole (c .before .before .before .loop .inv .only) (b .pre .0))
 
 -- src/lib.rt:86:33
 enum-known-judged : tie.Need-enum-known-judged Inv-loop μ-loop
@@ -60,12 +62,15 @@ stopped-requires c κs = search needs
 
 -- src/lib.rt:87:13
 same-length : tie.Need-same-length Inv-loop μ-loop
-same-length c = (c .before .before .before .before .before .before .before .loop .inv) .only .size
+same-length c =
+    let b = c .before .before .before .before .before .before .before in
+    b .loop .inv .only .size
 
 -- src/lib.rt:87:13
 returns : tie.Need-returns Inv-loop μ-loop
 returns c =
-    code-stop (rowFound (c .before .before .before .before .before .before .before .before .before .args .own)) (rowFound (c .before .before .before .before .before .before .before .before .before .args .wanted)) (c .before .before .before .before .before .before .before .before .before .args .filled) (c .before .before .before .before .before .before .before .before .before .args .start) (c .before .before .before .before .before .before .before .before .before .args .count) (c .before .before .before .before .before .before .before .before .before .args .first) (c .before .before .before .before .before .before .before .before .before .args .work .now) (c .before .before .before .before .before .before .before .loop .work) (c .before .before .before .before .before .before .before .loop .j) (c .before .before .before .before .before .before .before .loop .line) (c .before .before .before .before .before .before .before .loop .inv) (c .before .before .before .before .before .before .loop-test .taken) (c .before .before .before .judge-line .result) (eqb ((c .before .before .before .before .before .before .before .loop .j) + 1) (c .before .before .before .before .before .before .before .before .before .args .count)) refl (c .before .before .before .judge-line .ensures ∙ ap (λ (p : ℕ). lineJudged (c .before .before .before .before .before .before .before .loop .work) (rowFound (c .before .before .before .before .before .before .before .before .before .args .own)) (rowFound (c .before .before .before .before .before .before .before .before .before .args .wanted)) ((c .before .before .before .before .before .before .before .before .before .args .filled) + (c .before .before .before .before .before .before .before .loop .j)) (instrIn (c .before .before .before .before .before .before .before .loop .work) (p + (c .before .before .before .before .before .before .before .loop .j))) (eqb ((c .before .before .before .before .before .before .before .loop .j) + 1) (c .before .before .before .before .before .before .before .before .before .args .count))) (c .before .before .before .before .wide .ensures)) _ (c .before .enum-told .given .1) (c .stopped .result) (c .stopped .ensures)
+    let b = c .before .before .before .before .before .before in
+    code-stop (b .before .loop .inv) (b .loop-test .taken) (c .before .before .before .before .wide .ensures) (c .before .before .before .judge-line .ensures) (c .before .enum-told .given .1) (c .stopped .ensures)
 
 -- src/lib.rt:89:43
 add-put-slot-row : tie.Need-add-put-slot-row Inv-loop μ-loop
@@ -73,11 +78,17 @@ add-put-slot-row c = search needs
 
 -- src/lib.rt:89:9
 put-slot-row-requires : tie.Need-put-slot-row-requires Inv-loop μ-loop
-put-slot-row-requires c κs = (omega (arith, (c .before .before .before .before .before .before .before .before .before .before .pre .1), c .before .before .before .before .before .before .before .loop-test .taken), omega (arith, (c .before .before .before .before .before .before .before .before .loop .inv) .only .size, (c .before .before .before .before .before .before .before .before .before .before .pre .0) .size))
+put-slot-row-requires c κs =
+    let b = c .before .before .before .before .before .before .before in
+    let start = b .before .before .before .pre in
+    (omega (arith, start .1, b .loop-test .taken), omega (arith, b .before .loop .inv .only .size, start .0 .size))
 
 -- src/lib.rt:90:16
 add-line : tie.Need-add-line Inv-loop μ-loop
-add-line c = omega (arith, (c .before .before .before .before .before .before .before .before .before .before .before .loop .inv) .lined, (c .before .before .before .before .before .before .before .before .before .before .before .before .before .pre .1), (c .before .before .before .before .before .before .before .before .before .before .before .before .before .pre .2), c .before .before .before .before .before .before .before .before .before .before .loop-test .taken)
+add-line c =
+    let b = c .before .before .before .before .before .before .before .before .before .before in
+    let start = b .before .before .before .pre in
+    omega (arith, b .before .loop .inv .lined, start .1, start .2, b .loop-test .taken)
 
 -- src/lib.rt:91:13
 add-j : tie.Need-add-j Inv-loop μ-loop
@@ -90,7 +101,10 @@ loop-less c = omega arith
 -- src/lib.rt:77:5
 loop-again : tie.Need-loop-again Inv-loop μ-loop
 loop-again c =
-    code-next (rowFound (c .before .before .before .before .before .before .before .before .before .before .before .before .before .args .own)) (rowFound (c .before .before .before .before .before .before .before .before .before .before .before .before .before .args .wanted)) (c .before .before .before .before .before .before .before .before .before .before .before .before .before .args .filled) (c .before .before .before .before .before .before .before .before .before .before .before .before .before .args .start) (c .before .before .before .before .before .before .before .before .before .before .before .before .before .args .count) (c .before .before .before .before .before .before .before .before .before .before .before .before .before .args .first) (c .before .before .before .before .before .before .before .before .before .before .before .before .before .args .work .now) (c .before .before .before .before .before .before .before .before .before .before .before .loop .work) (c .before .before .before .before .before .before .before .before .before .before .before .loop .j) (c .before .before .before .before .before .before .before .before .before .before .before .loop .line) (c .before .before .before .before .before .before .before .before .before .before .before .loop .inv) (c .before .before .before .before .before .before .before .before .before .before .loop-test .taken) (c .before .before .before .before .before .before .before .judge-line .result) (eqb ((c .before .before .before .before .before .before .before .before .before .before .before .loop .j) + 1) (c .before .before .before .before .before .before .before .before .before .before .before .before .before .args .count)) refl (c .before .before .before .before .before .before .before .judge-line .ensures ∙ ap (λ (p : ℕ). lineJudged (c .before .before .before .before .before .before .before .before .before .before .before .loop .work) (rowFound (c .before .before .before .before .before .before .before .before .before .before .before .before .before .args .own)) (rowFound (c .before .before .before .before .before .before .before .before .before .before .before .before .before .args .wanted)) ((c .before .before .before .before .before .before .before .before .before .before .before .before .before .args .filled) + (c .before .before .before .before .before .before .before .before .before .before .before .loop .j)) (instrIn (c .before .before .before .before .before .before .before .before .before .before .before .loop .work) (p + (c .before .before .before .before .before .before .before .before .before .before .before .loop .j))) (eqb ((c .before .before .before .before .before .before .before .before .before .before .before .loop .j) + 1) (c .before .before .before .before .before .before .before .before .before .before .before .before .before .args .count))) (c .before .before .before .before .before .before .before .before .wide .ensures)) (c .before .before .before .before .before .before .before .before .before .before .before .before .before .pre .1) ((c .before .before .before .before .before .before .before .before .before .before .before .before .before .pre .0) .size) _ (c .before .before .before .before .before .judged .given .1) (c .before .before .put-slot-row .last .0) (c .before .before .put-slot-row .ensures)
+    let b = c .before .before .before .before .before .before .before .before .before .before in
+    let start = b .before .before .before .pre in
+    let judged = c .before .before .before .before .before in
+    code-next (b .before .loop .inv) (b .loop-test .taken) (judged .before .before .before .wide .ensures) (judged .before .before .judge-line .ensures) (start .1) (start .0 .size) (judged .judged .given .1) (c .before .before .put-slot-row .ensures)
 
 -- src/lib.rt:63:1
 same-length-2 : tie.Need-same-length-2 Inv-loop μ-loop
@@ -98,7 +112,7 @@ same-length-2 c = (c .before .loop .inv) .only .size
 
 -- src/lib.rt:63:1
 returns-2 : tie.Need-returns-2 Inv-loop μ-loop
-returns-2 c = code-end (rowFound (c .before .before .before .args .own)) (rowFound (c .before .before .before .args .wanted)) (c .before .before .before .args .filled) (c .before .before .before .args .start) (c .before .before .before .args .count) (c .before .before .before .args .first) (c .before .before .before .args .work .now) (c .before .loop .work) (c .before .loop .j) (c .before .loop .line) (c .before .loop .inv) (c .loop-test .left)
+returns-2 c = code-end (c .before .loop .inv) (c .loop-test .left)
 
 pub judge-code-spec : {M : Type 1} → statement M
 judge-code-spec =

@@ -8,20 +8,20 @@ use Rattle.form_typing.proofs.is_field.Tie as tie
 use Rattle.form_typing.proofs.is_field.Reads as reads
 use Rattle.form_typing.proofs.is_field.Lts as lts
 
--- src/lib.rt:152:34
+-- src/lib.rt:151:34
 enum-told : tie.Need-enum-told
 enum-told c = search needs
 
--- src/lib.rt:153:33
+-- src/lib.rt:152:33
 enum-told-2 : tie.Need-enum-told-2
 enum-told-2 c = search needs
 
--- src/lib.rt:148:1
+-- src/lib.rt:147:1
 returns : tie.Need-returns
 unfolding hasField
 returns c = sym (ap (λ (x : Member). hasField (x ∷ [])) (c .enum-told .given .1))
 
--- src/lib.rt:148:1
+-- src/lib.rt:147:1
 returns-2 : tie.Need-returns-2
 unfolding hasField
 returns-2 c = sym (ap (λ (x : Member). hasField (x ∷ [])) (c .enum-told2 .given .1))

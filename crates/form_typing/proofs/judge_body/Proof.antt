@@ -11,38 +11,40 @@ use Rattle.form_typing.proofs.put_slots.Reads as put-slots-reads
 use Rattle.table.proofs.forms.form_row.Reads as form-row-reads
 use Rattle.table.proofs.rows.wide.Reads as wide-reads
 
--- src/lib.rt:63:9
+-- src/lib.rt:62:9
 form-row-requires : tie.Need-form-row-requires
 form-row-requires c κs = search needs
 
--- src/lib.rt:64:9
+-- src/lib.rt:63:9
 put-slots-requires : tie.Need-put-slots-requires
 put-slots-requires c κs = search needs
 
--- src/lib.rt:71:9
+-- src/lib.rt:70:9
 wide-requires : tie.Need-wide-requires
 wide-requires c κs = search needs
 
--- src/lib.rt:72:9
+-- src/lib.rt:71:9
 add-judge-code : tie.Need-add-judge-code
 add-judge-code c = search needs
 
--- src/lib.rt:65:5
+-- src/lib.rt:64:5
 judge-code-requires : tie.Need-judge-code-requires
-judge-code-requires c κs = (
-  slots-whole (c .before .before .before .before .before .before .before .before .before .args .work .now) (c .before .before .before .before .put-slots .last .0) (c .before .before .before .before .put-slots .ensures .only) (c .before .before .before .before .before .before .before .before .before .pre .0),
-  omega (arith, c .before .before .before .before .put-slots .ensures .few, c .wide .ensures, (c .before .before .before .before .before .before .before .before .before .pre .1)),
-  omega (arith, (c .before .before .before .before .before .before .before .before .before .pre .2)),
-)
+judge-code-requires c κs =
+    let slots = c .before .before .before .before .put-slots .ensures in
+    let b = c .before .before .before .before .before .before .before .before .before in
+    (slots-whole (slots .only) (b .pre .0), omega (arith, slots .few, c .wide .ensures, b .pre .1), omega (arith, b .pre .2))
 
--- src/lib.rt:51:1
+-- src/lib.rt:50:1
 same-length : tie.Need-same-length
 same-length c = search needs
 
--- src/lib.rt:51:1
+-- src/lib.rt:50:1
 returns : tie.Need-returns
 returns c =
-    body-judged (c .before .before .before .before .before .before .before .before .before .before .before .before .args .f) (c .before .before .before .before .before .before .before .before .before .before .before .before .args .argument) (c .before .before .before .before .before .before .before .before .before .before .before .before .args .result) (c .before .before .before .before .before .before .before .before .before .before .before .before .args .start) (c .before .before .before .before .before .before .before .before .before .before .before .before .args .count) (c .before .before .before .before .before .before .before .before .before .before .before .before .args .line) (c .before .before .before .before .before .before .before .before .before .before .before .before .args .work .now) (c .before .before .before .before .before .before .before .before .before .form-row .result) (c .before .before .before .before .before .before .before .before .before .form-row .ensures) (c .before .before .before .before .before .before .before .put-slots .last .0) (c .before .before .before .before .before .before .before .put-slots .result) (c .before .before .before .before .before .before .before .put-slots .ensures) (c .before .before .before .wide .result) (c .before .before .before .wide .ensures) (c .before .before .judge-code .last .0) (c .before .before .judge-code .result) (c .before .before .judge-code .ensures)
+    let slots = c .before .before .before .before .before .before .before in
+    let row = slots .before .before in
+    let b = row .before .before .before in
+    body-judged (b .args .result) (b .args .start) (row .form-row .ensures) (slots .put-slots .ensures) (c .before .before .before .wide .ensures) (c .before .before .judge-code .ensures)
 
 pub judge-body-spec : {M : Type 1} → statement M
 judge-body-spec =

@@ -13,77 +13,93 @@ use Rattle.form_typing.proofs.judge_parts.Reads as judge-parts-reads
 use Rattle.table.proofs.forms.form_row.Reads as form-row-reads
 use Rattle.table.proofs.rows.wide.Reads as wide-reads
 
--- src/lib.rt:228:38
+-- src/lib.rt:227:38
 form-row-requires : tie.Need-form-row-requires
 form-row-requires c κs = search needs
 
--- src/lib.rt:228:33
+-- src/lib.rt:227:33
 wide-requires : tie.Need-wide-requires
 wide-requires c κs = search needs
 
--- src/lib.rt:228:9
+-- src/lib.rt:227:9
 judge-head-requires : tie.Need-judge-head-requires
 judge-head-requires c κs = search needs
 
--- src/lib.rt:229:28
+-- src/lib.rt:228:28
 enum-known-head : tie.Need-enum-known-head
 enum-known-head c = search needs
 
--- src/lib.rt:230:9
+-- src/lib.rt:229:9
 enum-told : tie.Need-enum-told
 enum-told c = search needs
 
--- src/lib.rt:230:9
+-- src/lib.rt:229:9
 same-length : tie.Need-same-length
 same-length c = search needs
 
--- src/lib.rt:230:9
+-- src/lib.rt:229:9
 returns : tie.Need-returns
-returns c = head-stopped (c .before .before .before .before .before .before .before .args .work .now) (c .before .before .before .before .before .before .before .args .f) (c .before .before .before .before .before .before .before .args .line) (c .before .before .before .wide .result) (c .before .before .before .wide .ensures ∙ c .before .before .before .before .form-row .ensures) (c .before .before .judge-head .result) (c .before .before .judge-head .ensures) _ _ (c .enum-told .given .1)
+returns c =
+    let b = c .before .before .before .before .before .before .before in
+    head-stopped (b .args .work .now) (b .args .f) (b .args .line) (c .before .before .before .wide .ensures ∙ c .before .before .before .before .form-row .ensures) (c .before .before .judge-head .ensures) (c .enum-told .given .1)
 
--- src/lib.rt:232:9
+-- src/lib.rt:231:9
 judge-keeps-requires : tie.Need-judge-keeps-requires
-judge-keeps-requires c κs = ((c .before .before .before .before .before .before .before .before .before .pre .0), omega (arith, (c .before .before .before .before .before .before .before .before .before .pre .2), head-next (c .before .before .before .before .before .before .before .before .before .args .work .now) (c .before .before .before .before .before .before .before .before .before .args .f) (c .before .before .before .before .before .before .before .before .before .args .line) (c .before .before .before .before .before .wide .result) (c .before .before .before .before .before .wide .ensures ∙ c .before .before .before .before .before .before .form-row .ensures) (c .before .before .before .before .judge-head .result) (c .before .before .before .before .judge-head .ensures) _ (c .before .before .head .given .1)))
+judge-keeps-requires c κs =
+    let h = c .before .before .before .before in
+    let b = h .before .before .before .before .before in
+    (b .pre .0, omega (arith, b .pre .2, head-next (b .args .work .now) (b .args .f) (b .args .line) (h .before .wide .ensures ∙ h .before .before .form-row .ensures) (h .judge-head .ensures) (c .before .before .head .given .1)))
 
--- src/lib.rt:233:28
+-- src/lib.rt:232:28
 enum-known-keeps : tie.Need-enum-known-keeps
 enum-known-keeps c = search needs
 
--- src/lib.rt:234:9
+-- src/lib.rt:233:9
 enum-told-2 : tie.Need-enum-told-2
 enum-told-2 c = search needs
 
--- src/lib.rt:234:9
+-- src/lib.rt:233:9
 same-length-2 : tie.Need-same-length-2
 same-length-2 c = search needs
 
--- src/lib.rt:234:9
+-- src/lib.rt:233:9
 returns-2 : tie.Need-returns-2
 returns-2 c =
-    keeps-stopped (c .before .before .before .before .before .before .before .before .before .before .before .before .args .work .now) (c .before .before .before .before .before .before .before .before .before .before .before .before .args .f) (c .before .before .before .before .before .before .before .before .before .before .before .before .args .line) (c .before .before .before .before .before .before .before .before .wide .result) (c .before .before .before .before .before .before .before .before .wide .ensures ∙ c .before .before .before .before .before .before .before .before .before .form-row .ensures) (c .before .before .before .before .before .before .before .judge-head .result) (c .before .before .before .before .before .before .before .judge-head .ensures) _ (c .before .before .before .before .before .head .given .1) (c .before .before .judge-keeps .result) (c .before .before .judge-keeps .ensures) _ _ (c .enum-told2 .given .1)
+    let on = c .before .before .before .before .before in
+    let h = on .before .before in
+    let b = h .before .before .before .before .before in
+    keeps-stopped (b .args .work .now) (b .args .f) (b .args .line) (h .before .wide .ensures ∙ h .before .before .form-row .ensures) (h .judge-head .ensures) (on .head .given .1) (c .before .before .judge-keeps .ensures) (c .enum-told2 .given .1)
 
--- src/lib.rt:236:5
+-- src/lib.rt:235:5
 judge-parts-requires : tie.Need-judge-parts-requires
-judge-parts-requires c κs = (
-  (c .before .before .before .before .before .before .before .before .before .before .before .before .before .before .pre .0),
-  (c .before .before .before .before .before .before .before .before .before .before .before .before .before .before .pre .1),
-  omega (
-    arith,
-    (c .before .before .before .before .before .before .before .before .before .before .before .before .before .before .pre .2),
-    head-next (c .before .before .before .before .before .before .before .before .before .before .before .before .before .before .args .work .now) (c .before .before .before .before .before .before .before .before .before .before .before .before .before .before .args .f) (c .before .before .before .before .before .before .before .before .before .before .before .before .before .before .args .line) (c .before .before .before .before .before .before .before .before .before .before .wide .result) (c .before .before .before .before .before .before .before .before .before .before .wide .ensures ∙ c .before .before .before .before .before .before .before .before .before .before .before .form-row .ensures) (c .before .before .before .before .before .before .before .before .before .judge-head .result) (c .before .before .before .before .before .before .before .before .before .judge-head .ensures) _ (c .before .before .before .before .before .before .before .head .given .1),
-    keeps-after (c .before .before .before .before .before .before .before .before .before .before .before .before .before .before .args .work .now) (c .before .before .before .before .before .before .before .before .before .before .before .before .before .before .args .f) (c .before .before .before .before .before .before .before .before .before .before .before .before .before .before .args .line) (c .before .before .before .before .before .before .before .before .before .before .wide .result) (c .before .before .before .before .before .before .before .before .before .before .wide .ensures ∙ c .before .before .before .before .before .before .before .before .before .before .before .form-row .ensures) (c .before .before .before .before .before .before .before .before .before .judge-head .result) (c .before .before .before .before .before .before .before .before .before .judge-head .ensures) _ (c .before .before .before .before .before .before .before .head .given .1) (c .before .before .before .before .judge-keeps .result) (c .before .before .before .before .judge-keeps .ensures) _ (c .before .before .keeps .given .1),
-    (form-well (c .before .before .before .before .before .before .before .before .before .before .before .before .before .before .args .work .now) (c .before .before .before .before .before .before .before .before .before .before .before .before .before .before .pre .0) (c .before .before .before .before .before .before .before .before .before .before .before .before .before .before .args .f) (c .before .before .before .before .before .before .before .before .before .before .before .before .before .before .pre .1)) .few,
-  ),
-)
+judge-parts-requires c κs =
+    let on = c .before .before .before .before .before .before .before in
+    let h = on .before .before in
+    let b = h .before .before .before .before .before in
+    let row = h .before .wide .ensures ∙ h .before .before .form-row .ensures in (
+      b .pre .0,
+      b .pre .1,
+      omega (
+        arith,
+        b .pre .2,
+        head-next (b .args .work .now) (b .args .f) (b .args .line) row (h .judge-head .ensures) (on .head .given .1),
+        keeps-after (b .args .work .now) (b .args .f) (b .args .line) row (h .judge-head .ensures) (on .head .given .1) (c .before .before .before .before .judge-keeps .ensures) (c .before .before .keeps .given .1),
+        (form-well (b .args .work .now) (b .pre .0) (b .args .f) (b .pre .1)) .few,
+      ),
+    )
 
--- src/lib.rt:224:1
+-- src/lib.rt:223:1
 same-length-3 : tie.Need-same-length-3
 same-length-3 c = search needs
 
--- src/lib.rt:224:1
+-- src/lib.rt:223:1
 returns-3 : tie.Need-returns-3
 returns-3 c =
-    form-judged (c .before .before .before .before .before .before .before .before .before .before .before .before .before .before .before .before .before .args .work .now) (c .before .before .before .before .before .before .before .before .before .before .before .before .before .before .before .before .before .args .f) (c .before .before .before .before .before .before .before .before .before .before .before .before .before .before .before .before .before .args .line) (c .before .before .before .before .before .before .before .before .before .before .before .before .before .wide .result) (c .before .before .before .before .before .before .before .before .before .before .before .before .before .wide .ensures ∙ c .before .before .before .before .before .before .before .before .before .before .before .before .before .before .form-row .ensures) (c .before .before .before .before .before .before .before .before .before .before .before .before .judge-head .result) (c .before .before .before .before .before .before .before .before .before .before .before .before .judge-head .ensures) _ (c .before .before .before .before .before .before .before .before .before .before .head .given .1) (c .before .before .before .before .before .before .before .judge-keeps .result) (c .before .before .before .before .before .before .before .judge-keeps .ensures) _ (c .before .before .before .before .before .keeps .given .1) (c .before .before .judge-parts .last .0) (c .before .before .judge-parts .result) (c .before .before .judge-parts .ensures)
+    let k = c .before .before .before .before .before in
+    let on = k .before .before .before .before .before in
+    let h = on .before .before in
+    let b = h .before .before .before .before .before in
+    form-judged (b .args .work .now) (b .args .f) (b .args .line) (h .before .wide .ensures ∙ h .before .before .form-row .ensures) (h .judge-head .ensures) (on .head .given .1) (k .before .before .judge-keeps .ensures) (k .keeps .given .1) (c .before .before .judge-parts .ensures)
 
 pub judge-form-spec : {M : Type 1} → statement M
 judge-form-spec =

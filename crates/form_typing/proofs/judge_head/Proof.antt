@@ -15,39 +15,45 @@ use Rattle.form_typing.proofs.judge_head.Lts as lts
 use Rattle.form_typing.proofs.has_field.Reads as has-field-reads
 use Rattle.form_typing.proofs.is_pure.Reads as is-pure-reads
 
--- src/lib.rt:178:9
+-- src/lib.rt:177:9
 is-pure-requires : tie.Need-is-pure-requires
 is-pure-requires c κs = search needs
 
--- src/lib.rt:179:35
+-- src/lib.rt:178:35
 add-t6 : tie.Need-add-t6
 add-t6 c = search needs
 
--- src/lib.rt:179:9
+-- src/lib.rt:178:9
 returns : tie.Need-returns
 returns c =
-    line-good (c .before .before .before .args .line) ImpureForm (not (isPure ((rowAt ((sheetIn (c .before .before .before .args .work .now)) .rows) (c .before .before .before .args .a)) .kind) && hasField (membersAt (sheetIn (c .before .before .before .args .work .now)) (c .before .before .before .args .a))))
-    (neither (isPure ((rowAt ((sheetIn (c .before .before .before .args .work .now)) .rows) (c .before .before .before .args .a)) .kind)) (hasField (membersAt (sheetIn (c .before .before .before .args .work .now)) (c .before .before .before .args .a))) (sym (c .before .is-pure .ensures) ∙ not-true (c .before .is-pure .result) (c .if1 .taken)))
+    let b = c .before .before .before in
+    let a = b .args .a in
+    line-good (b .args .line) ImpureForm (not (isPure ((rowAt ((sheetIn (b .args .work .now)) .rows) a) .kind) && hasField (membersAt (sheetIn (b .args .work .now)) a)))
+    (neither (hasField (membersAt (sheetIn (b .args .work .now)) a)) (sym (c .before .is-pure .ensures) ∙ not-true (c .before .is-pure .result) (c .if1 .taken)))
 
--- src/lib.rt:181:8
+-- src/lib.rt:180:8
 has-field-requires : tie.Need-has-field-requires
 has-field-requires c κs = search needs
 
--- src/lib.rt:182:9
+-- src/lib.rt:181:9
 returns-2 : tie.Need-returns-2
 returns-2 c =
-    line-bad (c .before .before .before .before .before .args .line) ImpureForm (not (isPure ((rowAt ((sheetIn (c .before .before .before .before .before .args .work .now)) .rows) (c .before .before .before .before .before .args .a)) .kind) && hasField (membersAt (sheetIn (c .before .before .before .before .before .args .work .now)) (c .before .before .before .before .before .args .a))))
-    (both (isPure ((rowAt ((sheetIn (c .before .before .before .before .before .args .work .now)) .rows) (c .before .before .before .before .before .args .a)) .kind)) (hasField (membersAt (sheetIn (c .before .before .before .before .before .args .work .now)) (c .before .before .before .before .before .args .a))) (sym (c .before .before .before .is-pure .ensures) ∙ not-false (c .before .before .before .is-pure .result) (c .before .before .if1 .left)) (sym (c .before .has-field .ensures) ∙ c .if2 .taken))
+    let b = c .before .before .before .before .before in
+    let a = b .args .a in
+    line-bad (b .args .line) ImpureForm (not (isPure ((rowAt ((sheetIn (b .args .work .now)) .rows) a) .kind) && hasField (membersAt (sheetIn (b .args .work .now)) a)))
+    (both (sym (c .before .before .before .is-pure .ensures) ∙ not-false (c .before .before .before .is-pure .result) (c .before .before .if1 .left)) (sym (c .before .has-field .ensures) ∙ c .if2 .taken))
 
--- src/lib.rt:187:24
+-- src/lib.rt:186:24
 add-t9 : tie.Need-add-t9
 add-t9 c = search needs
 
--- src/lib.rt:174:1
+-- src/lib.rt:173:1
 returns-3 : tie.Need-returns-3
 returns-3 c =
-    line-good (c .before .before .before .before .before .args .line) ImpureForm (not (isPure ((rowAt ((sheetIn (c .before .before .before .before .before .args .work .now)) .rows) (c .before .before .before .before .before .args .a)) .kind) && hasField (membersAt (sheetIn (c .before .before .before .before .before .args .work .now)) (c .before .before .before .before .before .args .a))))
-    (not-both (isPure ((rowAt ((sheetIn (c .before .before .before .before .before .args .work .now)) .rows) (c .before .before .before .before .before .args .a)) .kind)) (hasField (membersAt (sheetIn (c .before .before .before .before .before .args .work .now)) (c .before .before .before .before .before .args .a))) (sym (c .before .before .before .is-pure .ensures) ∙ not-false (c .before .before .before .is-pure .result) (c .before .before .if1 .left)) (sym (c .before .has-field .ensures) ∙ c .if2 .left))
+    let b = c .before .before .before .before .before in
+    let a = b .args .a in
+    line-good (b .args .line) ImpureForm (not (isPure ((rowAt ((sheetIn (b .args .work .now)) .rows) a) .kind) && hasField (membersAt (sheetIn (b .args .work .now)) a)))
+    (not-both (sym (c .before .before .before .is-pure .ensures) ∙ not-false (c .before .before .before .is-pure .result) (c .before .before .if1 .left)) (sym (c .before .has-field .ensures) ∙ c .if2 .left))
 
 pub judge-head-spec : {M : Type 1} → statement M
 judge-head-spec =

@@ -15,33 +15,37 @@ use Rattle.instr_typing.proofs.fits.Reads as fits-reads
 use Rattle.table.proofs.forms.keep.Reads as keep-reads
 use Rattle.table.proofs.rows.wide.Reads as wide-reads
 
--- src/lib.rt:81:45
+-- src/lib.rt:80:45
 wide-requires : tie.Need-wide-requires
 wide-requires c κs = search needs
 
--- src/lib.rt:81:9
+-- src/lib.rt:80:9
 keep-requires : tie.Need-keep-requires
 keep-requires c κs = search needs
 
--- src/lib.rt:82:8
+-- src/lib.rt:81:8
 fits-requires : tie.Need-fits-requires
 fits-requires c κs = search needs
 
--- src/lib.rt:83:35
+-- src/lib.rt:82:35
 add-t9 : tie.Need-add-t9
 add-t9 c = search needs
 
--- src/lib.rt:83:9
+-- src/lib.rt:82:9
 returns : tie.Need-returns
 returns c =
-    line-good (c .before .before .before .before .before .args .line) Misfit (tells (c .before .before .before .before .before .args .work .now) (getD ((formAt (sheetIn (c .before .before .before .before .before .args .work .now)) (c .before .before .before .before .before .args .f)) .keeps) (c .before .before .before .before .before .args .kept) 0) (c .before .before .before .before .before .args .row))
-    (sym (c .before .fits2 .ensures ∙ ap (λ (a : ℕ). tells (c .before .before .before .before .before .args .work .now) a (c .before .before .before .before .before .args .row)) (c .before .before .keep .ensures ∙ ap (λ (k : ℕ). getD ((formAt (sheetIn (c .before .before .before .before .before .args .work .now)) (c .before .before .before .before .before .args .f)) .keeps) k 0) (c .before .before .before .wide .ensures))) ∙ c .if1 .taken)
+    let b = c .before .before .before .before .before in
+    let w = b .args .work .now in
+    line-good (b .args .line) Misfit (tells w (getD ((formAt (sheetIn w) (b .args .f)) .keeps) (b .args .kept) 0) (b .args .row))
+    (sym (c .before .fits2 .ensures ∙ ap (λ (a : ℕ). tells w a (b .args .row)) (c .before .before .keep .ensures ∙ ap (λ (k : ℕ). getD ((formAt (sheetIn w) (b .args .f)) .keeps) k 0) (c .before .before .before .wide .ensures))) ∙ c .if1 .taken)
 
--- src/lib.rt:77:1
+-- src/lib.rt:76:1
 returns-2 : tie.Need-returns-2
 returns-2 c =
-    line-bad (c .before .before .before .before .before .args .line) Misfit (tells (c .before .before .before .before .before .args .work .now) (getD ((formAt (sheetIn (c .before .before .before .before .before .args .work .now)) (c .before .before .before .before .before .args .f)) .keeps) (c .before .before .before .before .before .args .kept) 0) (c .before .before .before .before .before .args .row))
-    (sym (c .before .fits2 .ensures ∙ ap (λ (a : ℕ). tells (c .before .before .before .before .before .args .work .now) a (c .before .before .before .before .before .args .row)) (c .before .before .keep .ensures ∙ ap (λ (k : ℕ). getD ((formAt (sheetIn (c .before .before .before .before .before .args .work .now)) (c .before .before .before .before .before .args .f)) .keeps) k 0) (c .before .before .before .wide .ensures))) ∙ c .if1 .left)
+    let b = c .before .before .before .before .before in
+    let w = b .args .work .now in
+    line-bad (b .args .line) Misfit (tells w (getD ((formAt (sheetIn w) (b .args .f)) .keeps) (b .args .kept) 0) (b .args .row))
+    (sym (c .before .fits2 .ensures ∙ ap (λ (a : ℕ). tells w a (b .args .row)) (c .before .before .keep .ensures ∙ ap (λ (k : ℕ). getD ((formAt (sheetIn w) (b .args .f)) .keeps) k 0) (c .before .before .before .wide .ensures))) ∙ c .if1 .left)
 
 pub judge-init-spec : {M : Type 1} → statement M
 judge-init-spec =

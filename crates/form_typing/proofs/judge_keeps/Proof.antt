@@ -2,7 +2,7 @@ use borrow.Author.Needs.{needs}
 use borrow.Author.Tests.{not-true, not-false}
 use native.Mathlib.Omega.{arith}
 use Prim.Native.Nat.{ℕ, _-_}
-use mathlib.Core.Path.{sym, ap, _∙_}
+use mathlib.Core.Path.{ap, _∙_}
 use Rattle.sheet_rules.specs.Sheet.{rowAt, formAt}
 use Rattle.type_rules.specs.Typing.{isPure}
 use Rattle.table.specs.View.{sheetIn}
@@ -25,63 +25,70 @@ Inv-loop work f first pure count j₀ line₀ j line =
 abbrev μ-loop : tie.MeasureT-loop
 μ-loop work f first pure count j₀ line₀ j line = count - j
 
--- src/lib.rt:206:35
+-- src/lib.rt:205:35
 form-row-requires : tie.Need-form-row-requires Inv-loop μ-loop
 form-row-requires c κs = (c .before .pre .0)
 
--- src/lib.rt:206:30
+-- src/lib.rt:205:30
 wide-requires : tie.Need-wide-requires Inv-loop μ-loop
 wide-requires c κs = search needs
 
--- src/lib.rt:206:9
+-- src/lib.rt:205:9
 is-pure-requires : tie.Need-is-pure-requires Inv-loop μ-loop
 is-pure-requires c κs = (c .before .before .before .pre .0)
 
--- src/lib.rt:207:9
+-- src/lib.rt:206:9
 keep-count-requires : tie.Need-keep-count-requires Inv-loop μ-loop
 keep-count-requires c κs = (c .before .before .before .before .pre .0)
 
--- src/lib.rt:210:5
+-- src/lib.rt:209:5
 loop-holds : tie.Need-loop-holds Inv-loop μ-loop
-loop-holds c = keeps-start (sheetIn (c .before .before .before .before .before .args .work .now)) (rowAt ((sheetIn (c .before .before .before .before .before .args .work .now)) .rows) ((formAt (sheetIn (c .before .before .before .before .before .args .work .now)) (c .before .before .before .before .before .args .f)) .row)) ((formAt (sheetIn (c .before .before .before .before .before .args .work .now)) (c .before .before .before .before .before .args .f)) .keeps) (c .before .before .before .before .before .args .first)
+loop-holds c = keeps-start
 
--- src/lib.rt:211:39
+-- src/lib.rt:210:39
 keep-requires : tie.Need-keep-requires Inv-loop μ-loop
-keep-requires c κs = (c .before .before .before .before .before .before .before .pre .0)
+keep-requires c κs = let b = c .before .before .before .before .before .before .before in b .pre .0
 
--- src/lib.rt:211:34
+-- src/lib.rt:210:34
 wide-requires-2 : tie.Need-wide-requires-2 Inv-loop μ-loop
 wide-requires-2 c κs = search needs
 
--- src/lib.rt:211:13
+-- src/lib.rt:210:13
 may-keep-requires : tie.Need-may-keep-requires Inv-loop μ-loop
-may-keep-requires c κs = (c .before .before .before .before .before .before .before .before .before .pre .0)
+may-keep-requires c κs = let b = c .before .before .before .before .before .before .before .before .before in b .pre .0
 
--- src/lib.rt:212:13
+-- src/lib.rt:211:13
 returns : tie.Need-returns Inv-loop μ-loop
 returns c =
-    keeps-stop (sheetIn (c .before .before .before .before .before .before .before .before .before .before .before .args .work .now)) (rowAt ((sheetIn (c .before .before .before .before .before .before .before .before .before .before .before .args .work .now)) .rows) ((formAt (sheetIn (c .before .before .before .before .before .before .before .before .before .before .before .args .work .now)) (c .before .before .before .before .before .before .before .before .before .before .before .args .f)) .row)) ((formAt (sheetIn (c .before .before .before .before .before .before .before .before .before .before .before .args .work .now)) (c .before .before .before .before .before .before .before .before .before .before .before .args .f)) .keeps) (c .before .before .before .before .before .before .before .before .before .before .before .args .first) (c .before .before .before .before .before .loop .j) (c .before .before .before .before .before .loop .line) (c .before .before .before .before .before .loop .inv) (omega (arith, c .before .before .before .before .loop-test .taken, c .before .before .before .before .before .before .keep-count .ensures .0)) (c .before .before .before .before .before .before .before .is-pure .result) (c .before .before .before .before .before .before .before .is-pure .ensures ∙ ap (λ (a : ℕ). isPure ((rowAt ((sheetIn (c .before .before .before .before .before .before .before .before .before .before .before .args .work .now)) .rows) a) .kind)) (c .before .before .before .before .before .before .before .before .wide .ensures ∙ c .before .before .before .before .before .before .before .before .before .form-row .ensures)) (c .before .before .wide2 .result) (c .before .before .wide2 .ensures ∙ c .before .before .before .keep .ensures) (c .before .may-keep .result) (c .before .may-keep .ensures) (not-true _ (c .if1 .taken))
+    let loop = c .before .before .before .before in
+    let b = loop .before .before .before in
+    keeps-stop (loop .before .loop .inv) (omega (arith, loop .loop-test .taken, loop .before .before .keep-count .ensures .0)) (b .is-pure .ensures ∙ ap (λ (a : ℕ). isPure ((rowAt ((sheetIn (b .before .before .before .before .args .work .now)) .rows) a) .kind)) (b .before .wide .ensures ∙ b .before .before .form-row .ensures)) (c .before .before .wide2 .ensures ∙ c .before .before .before .keep .ensures) (c .before .may-keep .ensures) (not-true _ (c .if1 .taken))
 
--- src/lib.rt:217:16
+-- src/lib.rt:216:16
 add-line : tie.Need-add-line Inv-loop μ-loop
-add-line c = omega (arith, (c .before .before .before .before .before .loop .inv) .lined, (c .before .before .before .before .before .before .before .before .before .before .before .pre .1), c .before .before .before .before .loop-test .taken, c .before .before .before .before .before .before .keep-count .ensures .1)
+add-line c =
+    let loop = c .before .before .before .before in
+    let b = loop .before .before .before .before .before .before .before in
+    omega (arith, loop .before .loop .inv .lined, b .pre .1, loop .loop-test .taken, loop .before .before .keep-count .ensures .1)
 
--- src/lib.rt:218:13
+-- src/lib.rt:217:13
 add-j : tie.Need-add-j Inv-loop μ-loop
 add-j c = omega arith
 
--- src/lib.rt:210:5
+-- src/lib.rt:209:5
 loop-less : tie.Need-loop-less Inv-loop μ-loop
 loop-less c = omega arith
 
--- src/lib.rt:210:5
+-- src/lib.rt:209:5
 loop-again : tie.Need-loop-again Inv-loop μ-loop
 loop-again c =
-    keeps-next (sheetIn (c .before .before .before .before .before .before .before .before .before .before .before .args .work .now)) (rowAt ((sheetIn (c .before .before .before .before .before .before .before .before .before .before .before .args .work .now)) .rows) ((formAt (sheetIn (c .before .before .before .before .before .before .before .before .before .before .before .args .work .now)) (c .before .before .before .before .before .before .before .before .before .before .before .args .f)) .row)) ((formAt (sheetIn (c .before .before .before .before .before .before .before .before .before .before .before .args .work .now)) (c .before .before .before .before .before .before .before .before .before .before .before .args .f)) .keeps) (c .before .before .before .before .before .before .before .before .before .before .before .args .first) (c .before .before .before .before .before .loop .j) (c .before .before .before .before .before .loop .line) (c .before .before .before .before .before .loop .inv) (omega (arith, c .before .before .before .before .loop-test .taken, c .before .before .before .before .before .before .keep-count .ensures .0)) (c .before .before .before .before .before .before .before .is-pure .result) (c .before .before .before .before .before .before .before .is-pure .ensures ∙ ap (λ (a : ℕ). isPure ((rowAt ((sheetIn (c .before .before .before .before .before .before .before .before .before .before .before .args .work .now)) .rows) a) .kind)) (c .before .before .before .before .before .before .before .before .wide .ensures ∙ c .before .before .before .before .before .before .before .before .before .form-row .ensures)) (c .before .before .wide2 .result) (c .before .before .wide2 .ensures ∙ c .before .before .before .keep .ensures) (c .before .may-keep .result) (c .before .may-keep .ensures) (not-false _ (c .if1 .left))
+    let loop = c .before .before .before .before in
+    let b = loop .before .before .before in
+    keeps-next (loop .before .loop .inv) (omega (arith, loop .loop-test .taken, loop .before .before .keep-count .ensures .0)) (b .is-pure .ensures ∙ ap (λ (a : ℕ). isPure ((rowAt ((sheetIn (b .before .before .before .before .args .work .now)) .rows) a) .kind)) (b .before .wide .ensures ∙ b .before .before .form-row .ensures)) (c .before .before .wide2 .ensures ∙ c .before .before .before .keep .ensures) (c .before .may-keep .ensures) (not-false _ (c .if1 .left))
 
--- src/lib.rt:202:1
+-- src/lib.rt:201:1
 returns-2 : tie.Need-returns-2 Inv-loop μ-loop
-returns-2 c = keeps-end (sheetIn (c .before .before .before .before .before .before .before .args .work .now)) (rowAt ((sheetIn (c .before .before .before .before .before .before .before .args .work .now)) .rows) ((formAt (sheetIn (c .before .before .before .before .before .before .before .args .work .now)) (c .before .before .before .before .before .before .before .args .f)) .row)) ((formAt (sheetIn (c .before .before .before .before .before .before .before .args .work .now)) (c .before .before .before .before .before .before .before .args .f)) .keeps) (c .before .before .before .before .before .before .before .args .first) (c .before .loop .j) (c .before .loop .line) (c .before .loop .inv) (omega (arith, c .loop-test .left, c .before .before .keep-count .ensures .0))
+returns-2 c = keeps-end (c .before .loop .inv) (omega (arith, c .loop-test .left, c .before .before .keep-count .ensures .0))
 
 pub judge-keeps-spec : {M : Type 1} → statement M
 judge-keeps-spec =

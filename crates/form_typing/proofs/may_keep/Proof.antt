@@ -12,15 +12,15 @@ use Rattle.form_typing.proofs.may_keep.Reads as reads
 use Rattle.form_typing.proofs.may_keep.Lts as lts
 use Rattle.form_typing.proofs.is_pure.Reads as is-pure-reads
 
--- src/lib.rt:196:9
+-- src/lib.rt:195:9
 returns : tie.Need-returns
-returns c = sym (neither (c .before .before .args .pure) (not (isPure ((rowAt ((sheetIn (c .before .before .args .work .now)) .rows) (c .before .before .args .k)) .kind))) (not-true _ (c .if1 .taken)))
+returns c = sym (neither (not (isPure ((rowAt ((sheetIn (c .before .before .args .work .now)) .rows) (c .before .before .args .k)) .kind))) (not-true (c .before .before .args .pure) (c .if1 .taken)))
 
--- src/lib.rt:198:5
+-- src/lib.rt:197:5
 is-pure-requires : tie.Need-is-pure-requires
 is-pure-requires c κs = search needs
 
--- src/lib.rt:191:1
+-- src/lib.rt:190:1
 returns-2 : tie.Need-returns-2
 returns-2 c =
     c .is-pure .ensures ∙ sym (not-not (isPure ((rowAt ((sheetIn (c .before .before .before .args .work .now)) .rows) (c .before .before .before .args .k)) .kind)))

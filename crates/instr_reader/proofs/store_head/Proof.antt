@@ -6,10 +6,6 @@ use borrow.Author.Needs.{needs}
 use Rattle.instr_reader.proofs.store_head.Statement.{statement}
 use Rattle.instr_reader.proofs.store_head.Tie as tie
 
--- src/lib.rt:23:39
-cast-put-operation : tie.Need-cast-put-operation
-cast-put-operation c = search needs
-
 -- src/lib.rt:23:5
 put-operation-requires : tie.Need-put-operation-requires
 put-operation-requires c κs = search needs
@@ -37,23 +33,25 @@ same-length c = search needs
 -- src/lib.rt:19:1
 returns : tie.Need-returns
 returns c =
-    let ns = c .before .before .before .before .before .before .before .before .before .before .before .before .before .before .before .before .before .before .before .before .before .before .args .numbers in
-    let p : ℕ = c .before .before .before .before .before .before .before .before .before .before .before .before .before .before .before .before .before .before .before .before .before .before .args .p in
-    c .before .before .put-number4 .ensures
-    ∙ ap (λ (x : List ℕ). numberPut x p 3 (ns .n3))
-    (c .before .before .before .before .before .before .put-number3 .ensures
-    ∙ ap (λ (x : List ℕ). numberPut x p 2 (ns .n2))
-    (c .before .before .before .before .before .before .before .before .before .before .put-number2 .ensures
-    ∙ ap (λ (x : List ℕ). numberPut x p 1 (ns .n1))
-    (c .before .before .before .before .before .before .before .before .before .before .before .before .before .before .put-number .ensures
-    ∙ ap (λ (x : List ℕ). numberPut x p 0 (ns .n0))
-    (c .before .before .before .before .before .before .before .before .before .before .before .before .before .before .before .before .before .before .put-operation .ensures))))
+    let fourth = c .before .before in
+    let third = fourth .before .before .before .before in
+    let second = third .before .before .before .before in
+    let first = second .before .before .before .before in
+    let operation = first .before .before .before .before in
+    let a = operation .before .before .before .args in
+    let ns = a .numbers in
+    fourth .put-number4 .ensures
+    ∙ ap (λ (x : List ℕ). numberPut x (a .p) 3 (ns .n3))
+    (third .put-number3 .ensures
+    ∙ ap (λ (x : List ℕ). numberPut x (a .p) 2 (ns .n2))
+    (second .put-number2 .ensures
+    ∙ ap (λ (x : List ℕ). numberPut x (a .p) 1 (ns .n1))
+    (first .put-number .ensures ∙ ap (λ (x : List ℕ). numberPut x (a .p) 0 (ns .n0)) (operation .put-operation .ensures))))
 
 pub store-head-spec : {M : Type 1} → statement M
 store-head-spec =
     tie.close
     (tie.spec
-    cast-put-operation
     put-operation-requires
     put-number-requires
     put-number-requires-2

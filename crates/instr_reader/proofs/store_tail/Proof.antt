@@ -33,17 +33,20 @@ same-length c = search needs
 -- src/lib.rt:31:1
 returns : tie.Need-returns
 returns c =
-    let ns = c .before .before .before .before .before .before .before .before .before .before .before .before .before .before .before .before .before .before .before .before .before .args .numbers in
-    let p : ℕ = c .before .before .before .before .before .before .before .before .before .before .before .before .before .before .before .before .before .before .before .before .before .args .p in
-    c .before .before .put-number5 .ensures
-    ∙ ap (λ (x : List ℕ). numberPut x p 8 (ns .n8))
-    (c .before .before .before .before .before .before .put-number4 .ensures
-    ∙ ap (λ (x : List ℕ). numberPut x p 7 (ns .n7))
-    (c .before .before .before .before .before .before .before .before .before .before .put-number3 .ensures
-    ∙ ap (λ (x : List ℕ). numberPut x p 6 (ns .n6))
-    (c .before .before .before .before .before .before .before .before .before .before .before .before .before .before .put-number2 .ensures
-    ∙ ap (λ (x : List ℕ). numberPut x p 5 (ns .n5))
-    (c .before .before .before .before .before .before .before .before .before .before .before .before .before .before .before .before .before .before .put-number .ensures))))
+    let fifth = c .before .before in
+    let fourth = fifth .before .before .before .before in
+    let third = fourth .before .before .before .before in
+    let second = third .before .before .before .before in
+    let first = second .before .before .before .before in
+    let a = first .before .before .before .args in
+    let ns = a .numbers in
+    fifth .put-number5 .ensures
+    ∙ ap (λ (x : List ℕ). numberPut x (a .p) 8 (ns .n8))
+    (fourth .put-number4 .ensures
+    ∙ ap (λ (x : List ℕ). numberPut x (a .p) 7 (ns .n7))
+    (third .put-number3 .ensures
+    ∙ ap (λ (x : List ℕ). numberPut x (a .p) 6 (ns .n6))
+    (second .put-number2 .ensures ∙ ap (λ (x : List ℕ). numberPut x (a .p) 5 (ns .n5)) (first .put-number .ensures))))
 
 pub store-tail-spec : {M : Type 1} → statement M
 store-tail-spec =

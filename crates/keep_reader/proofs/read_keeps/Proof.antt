@@ -1,71 +1,80 @@
-use Prim.Native.Nat.{_+_}
-use Rattle.sheet_rules.specs.declared.Place.{Place}
-use Rattle.sheet_rules.specs.Reader.{one, existingLine}
-use Rattle.table.specs.Layout.{formAddress, keepAddress}
-use Rattle.table.specs.View.{cell}
-use Rattle.reader_loop.proofs.LoopLaws.{going-start, going-next, going-stop, going-end}
-use Rattle.keep_reader.proofs.KeepsLaws.{KeepsGoing, keep-turn}
-use borrow.Author.Needs.{needs}
-use native.Mathlib.Omega.{arith}
-use mathlib.Core.Path.{_∙_}
 use Prim.Native.Nat.{_-_}
+use native.Mathlib.Omega.{arith}
+use mathlib.Core.Path.{refl, _∙_}
+use borrow.Author.Needs.{needs}
+use Rattle.reader_loop.proofs.LoopLaws.{Going, going-start, going-next, going-stop, going-end}
+use Rattle.keep_reader.specs.Reads.{keepItems}
+use Rattle.keep_reader.proofs.KeepsLaws.{keep-turn}
 use Rattle.keep_reader.proofs.read_keeps.Statement.{statement}
 use Rattle.keep_reader.proofs.read_keeps.Tie as tie
+use Rattle.keep_reader.proofs.read_keeps.Reads as reads
+use Rattle.keep_reader.proofs.read_keeps.Lts as lts
+use Rattle.keep_reader.proofs.read_keep.Reads as read-keep-reads
 
 abbrev Inv-loop : tie.InvT-loop
-Inv-loop text work₀ f count rows from first j₀ at₀ line₀ work j at line = KeepsGoing text f count rows from first work₀ work j at line
+Inv-loop text work₀ f count rows j₀ here₀ work j here = Going text (keepItems f rows (here₀ .used)) count here₀ work₀ work j here
 
 abbrev μ-loop : tie.MeasureT-loop
-μ-loop text work₀ f count rows from first j₀ at₀ line₀ work j at line = count - j
+μ-loop text work₀ f count rows j₀ here₀ work j here = count - j
 
--- src/lib.rt:54:5
+-- src/lib.rt:44:5
 loop-holds : tie.Need-loop-holds Inv-loop μ-loop
-loop-holds c = going-start (c .before .before .args .text .now) (λ before. one (existingLine Place.Keep (c .before .before .args .rows))) (λ x j. cell x (keepAddress (c .before .before .args .f) j)) (formAddress (c .before .before .args .f) + 3) (formAddress (c .before .before .args .f) + 11) (c .before .before .args .count) (c .before .before .args .from) (c .before .before .args .first) (c .before .before .args .work .now) (c .before .before .pre .0)
+loop-holds c = going-start (c .before .before .pre .0) refl
 
--- src/lib.rt:55:13
+-- src/lib.rt:45:13
 read-keep-requires : tie.Need-read-keep-requires Inv-loop μ-loop
 read-keep-requires c κs =
-    (c .before .before .loop .inv .room, c .before .before .before .before .before .pre .1, omega (arith, c .before .before .before .before .before .pre .2, c .before .loop-test .taken), omega (arith, c .before .before .before .before .before .pre .3, c .before .before .loop .inv .only .size))
+    let p = c .before .before .before .before .before .pre in
+    let g = c .before .before .loop .inv in
+    (g .room, p .1, omega (arith, p .2, c .before .loop-test .taken), omega (arith, p .3, g .only .size))
 
--- src/lib.rt:56:35
+-- src/lib.rt:46:31
 enum-known-r : tie.Need-enum-known-r Inv-loop μ-loop
 enum-known-r c = search needs
 
--- src/lib.rt:57:13
+-- src/lib.rt:47:13
 enum-told : tie.Need-enum-told Inv-loop μ-loop
 enum-told c = search needs
 
--- src/lib.rt:57:13
+-- src/lib.rt:47:13
 same-length : tie.Need-same-length Inv-loop μ-loop
-same-length c = c .before .before .before .before .read-keep .ensures .only .size ∙ c .before .before .before .before .before .before .before .loop .inv .only .size
+same-length c =
+    let turn = c .before .before .before .before in
+    turn .read-keep .ensures .only .size ∙ turn .before .before .before .loop .inv .only .size
 
--- src/lib.rt:57:13
+-- src/lib.rt:47:13
 returns : tie.Need-returns Inv-loop μ-loop
 returns c =
-    going-stop (c .before .before .before .before .before .before .before .before .before .before .args .text .now) (λ before. one (existingLine Place.Keep (c .before .before .before .before .before .before .before .before .before .before .args .rows))) (λ x j. cell x (keepAddress (c .before .before .before .before .before .before .before .before .before .before .args .f) j)) (formAddress (c .before .before .before .before .before .before .before .before .before .before .args .f) + 3) (formAddress (c .before .before .before .before .before .before .before .before .before .before .args .f) + 11) (c .before .before .before .before .before .before .before .before .before .before .args .count) (c .before .before .before .before .before .before .before .before .before .before .args .from) (c .before .before .before .before .before .before .before .before .before .before .args .first) (c .before .before .before .before .before .before .before .before .before .before .args .work .now) (c .before .before .before .before .before .before .before .loop .work) (c .before .before .before .before .before .before .before .loop .j) (c .before .before .before .before .before .before .before .loop .at) (c .before .before .before .before .before .before .before .loop .line) (c .before .before .before .before .before .before .before .loop .inv) (c .before .before .before .before .before .before .loop-test .taken) (c .before .before .before .before .read-keep .last .1 .0) (c .before .before .before .before .read-keep .result) _ _ (c .enum-told .given .1)
-    (keep-turn (c .before .before .before .before .before .before .before .before .before .before .args .text .now) (c .before .before .before .before .before .before .before .before .before .before .args .f) (c .before .before .before .before .before .before .before .before .before .before .args .count) (c .before .before .before .before .before .before .before .before .before .before .args .rows) (c .before .before .before .before .before .before .before .before .before .before .args .from) (c .before .before .before .before .before .before .before .before .before .before .args .first) (c .before .before .before .before .before .before .before .before .before .before .args .work .now) (c .before .before .before .before .before .before .before .before .before .before .pre .2) (c .before .before .before .before .before .before .before .loop .work) (c .before .before .before .before .before .before .before .loop .j) (c .before .before .before .before .before .before .before .loop .at) (c .before .before .before .before .before .before .before .loop .line) (c .before .before .before .before .before .before .before .loop .inv) (c .before .before .before .before .before .before .loop-test .taken) (c .before .before .before .before .read-keep .last .1 .0) (c .before .before .before .before .read-keep .result) (c .before .before .before .before .read-keep .ensures))
+    let turn = c .before .before .before .before in
+    let loop = turn .before .before .before in
+    let p = loop .before .before .before in
+    let l = turn .before .before .loop-test .taken in
+    going-stop (loop .loop .inv) l (c .enum-told .given .1) (keep-turn (p .args .f) (p .args .rows) (loop .loop .inv) (p .pre .2) l (turn .read-keep .ensures))
 
--- src/lib.rt:61:13
+-- src/lib.rt:50:13
 add-j : tie.Need-add-j Inv-loop μ-loop
 add-j c = omega arith
 
--- src/lib.rt:54:5
+-- src/lib.rt:44:5
 loop-less : tie.Need-loop-less Inv-loop μ-loop
 loop-less c = omega arith
 
--- src/lib.rt:54:5
+-- src/lib.rt:44:5
 loop-again : tie.Need-loop-again Inv-loop μ-loop
 loop-again c =
-    going-next (c .before .before .before .before .before .before .before .before .before .before .before .args .text .now) (λ before. one (existingLine Place.Keep (c .before .before .before .before .before .before .before .before .before .before .before .args .rows))) (λ x j. cell x (keepAddress (c .before .before .before .before .before .before .before .before .before .before .before .args .f) j)) (formAddress (c .before .before .before .before .before .before .before .before .before .before .before .args .f) + 3) (formAddress (c .before .before .before .before .before .before .before .before .before .before .before .args .f) + 11) (c .before .before .before .before .before .before .before .before .before .before .before .args .count) (c .before .before .before .before .before .before .before .before .before .before .before .args .from) (c .before .before .before .before .before .before .before .before .before .before .before .args .first) (c .before .before .before .before .before .before .before .before .before .before .before .args .work .now) (c .before .before .before .before .before .before .before .before .loop .work) (c .before .before .before .before .before .before .before .before .loop .j) (c .before .before .before .before .before .before .before .before .loop .at) (c .before .before .before .before .before .before .before .before .loop .line) (c .before .before .before .before .before .before .before .before .loop .inv) (c .before .before .before .before .before .before .before .loop-test .taken) (c .before .before .before .before .before .read-keep .last .1 .0) (c .before .before .before .before .before .read-keep .result) _ _ (c .before .r .given .1)
-    (keep-turn (c .before .before .before .before .before .before .before .before .before .before .before .args .text .now) (c .before .before .before .before .before .before .before .before .before .before .before .args .f) (c .before .before .before .before .before .before .before .before .before .before .before .args .count) (c .before .before .before .before .before .before .before .before .before .before .before .args .rows) (c .before .before .before .before .before .before .before .before .before .before .before .args .from) (c .before .before .before .before .before .before .before .before .before .before .before .args .first) (c .before .before .before .before .before .before .before .before .before .before .before .args .work .now) (c .before .before .before .before .before .before .before .before .before .before .before .pre .2) (c .before .before .before .before .before .before .before .before .loop .work) (c .before .before .before .before .before .before .before .before .loop .j) (c .before .before .before .before .before .before .before .before .loop .at) (c .before .before .before .before .before .before .before .before .loop .line) (c .before .before .before .before .before .before .before .before .loop .inv) (c .before .before .before .before .before .before .before .loop-test .taken) (c .before .before .before .before .before .read-keep .last .1 .0) (c .before .before .before .before .before .read-keep .result) (c .before .before .before .before .before .read-keep .ensures))
+    let turn = c .before .before .before .before .before in
+    let loop = turn .before .before .before in
+    let p = loop .before .before .before in
+    let l = turn .before .before .loop-test .taken in
+    going-next (loop .loop .inv) l (c .before .r .given .1) (keep-turn (p .args .f) (p .args .rows) (loop .loop .inv) (p .pre .2) l (turn .read-keep .ensures))
 
--- src/lib.rt:39:1
+-- src/lib.rt:31:1
 same-length-2 : tie.Need-same-length-2 Inv-loop μ-loop
 same-length-2 c = c .before .loop .inv .only .size
 
--- src/lib.rt:39:1
+-- src/lib.rt:31:1
 returns-2 : tie.Need-returns-2 Inv-loop μ-loop
-returns-2 c = going-end (c .before .before .before .before .args .text .now) (λ before. one (existingLine Place.Keep (c .before .before .before .before .args .rows))) (λ x j. cell x (keepAddress (c .before .before .before .before .args .f) j)) (formAddress (c .before .before .before .before .args .f) + 3) (formAddress (c .before .before .before .before .args .f) + 11) (c .before .before .before .before .args .count) (c .before .before .before .before .args .from) (c .before .before .before .before .args .first) (c .before .before .before .before .args .work .now) (c .before .loop .work) (c .before .loop .j) (c .before .loop .at) (c .before .loop .line) (c .before .loop .inv) (omega arith)
+returns-2 c = going-end (c .before .loop .inv) (omega arith)
 
 pub read-keeps-spec : {M : Type 1} → statement M
 read-keeps-spec =

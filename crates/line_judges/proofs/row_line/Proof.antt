@@ -1,6 +1,4 @@
-use mathlib.Core.Path.{sym, _∙_}
-use borrow.Author.Tests.{not-true, not-false}
-use Rattle.line_judges.proofs.LineLaws.{row-malformed, row-kind, row-members, row-good}
+use Rattle.line_judges.proofs.LineLaws.{elsewhere, at-place, row-malformed, row-kind, row-members, row-good}
 use Rattle.line_judges.proofs.MemberLaws.{refused-not}
 use borrow.Author.Needs.{needs}
 use Rattle.line_judges.proofs.row_line.Statement.{statement}
@@ -12,19 +10,27 @@ same-place-requires c κs = search needs
 
 -- src/lib.rt:163:9
 returns : tie.Need-returns
-returns c = (λ earlier. row-malformed (c .before .before .args .place) (c .before .before .args .numbers) (c .before .before .pre) earlier (sym (c .before .same-place .ensures) ∙ (not-true (c .before .same-place .result) (c .if1 .taken))), λ e. refused-not _ e)
+returns c =
+    let p = c .before .before in
+    (λ earlier. row-malformed (p .pre) earlier (elsewhere (c .before .same-place .ensures) (c .if1 .taken)), λ e. refused-not _ e)
 
 -- src/lib.rt:170:9
 returns-2 : tie.Need-returns-2
-returns-2 c = (λ earlier. row-kind (c .before .before .before .args .place) (c .before .before .before .args .numbers) (c .before .before .before .pre) earlier (sym (c .before .before .same-place .ensures) ∙ (not-false (c .before .before .same-place .result) (c .before .if1 .left))) (c .if2 .taken), λ e. refused-not _ e)
+returns-2 c =
+    let p = c .before .before .before in
+    (λ earlier. row-kind (p .pre) earlier (at-place (c .before .before .same-place .ensures) (c .before .if1 .left)) (c .if2 .taken), λ e. refused-not _ e)
 
 -- src/lib.rt:175:9
 returns-3 : tie.Need-returns-3
-returns-3 c = (λ earlier. row-members (c .before .before .before .before .args .place) (c .before .before .before .before .args .numbers) (c .before .before .before .before .pre) earlier (sym (c .before .before .before .same-place .ensures) ∙ (not-false (c .before .before .before .same-place .result) (c .before .before .if1 .left))) (c .before .if2 .left) (c .if3 .taken), λ e. refused-not _ e)
+returns-3 c =
+    let p = c .before .before .before .before in
+    (λ earlier. row-members (p .pre) earlier (at-place (c .before .before .before .same-place .ensures) (c .before .before .if1 .left)) (c .before .if2 .left) (c .if3 .taken), λ e. refused-not _ e)
 
 -- src/lib.rt:157:1
 returns-4 : tie.Need-returns-4
-returns-4 c = (λ earlier. row-good (c .before .before .before .before .args .place) (c .before .before .before .before .args .numbers) (c .before .before .before .before .pre) earlier (sym (c .before .before .before .same-place .ensures) ∙ (not-false (c .before .before .before .same-place .result) (c .before .before .if1 .left))) (c .before .if2 .left) (c .if3 .left), λ e. c .if3 .left)
+returns-4 c =
+    let p = c .before .before .before .before in
+    (λ earlier. row-good (p .pre) earlier (at-place (c .before .before .before .same-place .ensures) (c .before .before .if1 .left)) (c .before .if2 .left) (c .if3 .left), λ e. c .if3 .left)
 
 pub row-line-spec : {M : Type 1} → statement M
 row-line-spec = tie.close (tie.spec same-place-requires returns returns-2 returns-3 returns-4)

@@ -24,7 +24,10 @@ same-length c = search needs
 
 -- src/lib.rt:130:1
 returns-3 : tie.Need-returns-3
-returns-3 c = sheet-read (c .before .before .before .before .before .before .before .before .args .text .now) (c .before .before .before .before .before .before .before .before .args .work .now) (c .before .before .before .before .before .if1 .left) (c .before .before .before .before .if2 .left) (c .before .before .read-from-types .last .1 .0) (c .before .before .read-from-types .result) (c .before .before .read-from-types .ensures)
+returns-3 c =
+    let read = c .before .before in
+    let p = read .before .before .before .before .before .before .args in
+    sheet-read (p .text .now) (p .work .now) (read .before .before .before .if1 .left) (read .before .before .if2 .left) (read .read-from-types .ensures)
 
 pub read-sheet-spec : {M : Type 1} → statement M
 read-sheet-spec =

@@ -10,49 +10,54 @@ use Rattle.row_store.proofs.lone_twin.Reads as lone-twin-reads
 use Rattle.table.proofs.rows.wide.Reads as wide-reads
 use Rattle.table.proofs.stores.put_row_head.Reads as put-row-head-reads
 
--- src/lib.rt:116:5
+-- src/lib.rt:105:5
 put-row-head-requires : tie.Need-put-row-head-requires
 put-row-head-requires c κs = search needs
 
--- src/lib.rt:117:9
+-- src/lib.rt:106:9
 wide-requires : tie.Need-wide-requires
 wide-requires c κs = search needs
 
--- src/lib.rt:118:8
+-- src/lib.rt:107:8
 lone-twin-requires : tie.Need-lone-twin-requires
 lone-twin-requires c κs =
-    let h = headed-by (c .before .before .before .before .before .before .before .before .args .work .now) (c .before .before .before .before .before .before .before .before .args .i) (c .before .before .before .before .before .before .before .before .args .kind) (c .before .before .before .before .before .before .before .before .args .count) (c .before .before .before .before .before .before .before .before .pre .3) (c .before .before .before .before .before .before .before .before .pre .1) (c .before .before .before .before .before .before .before .before .args .text .now) (c .before .before .before .before .before .before .before .before .args .at) (c .before .before .before .before .before .before .before .before .args .line) (c .before .before .before .before .put-row-head .last .0) (c .before .before .before .before .put-row-head .ensures) (c .before .wide .result) (c .before .wide .ensures) (c .before .before .before .before .before .before .before .before .pre .2) in
+    let put = c .before .before .before .before in
+    let p = put .before .before .before .before in
+    let h = headed-by (p .args .work .now) (p .args .i) (p .args .kind) (p .pre .4) (p .pre .2) (put .put-row-head .ensures) (c .before .wide .ensures) (p .pre .3) in
     (h .row, omega (arith, h .counted, h .few), h .size)
 
--- src/lib.rt:119:9
+-- src/lib.rt:108:9
 same-length : tie.Need-same-length
 same-length c = search needs
 
--- src/lib.rt:119:9
+-- src/lib.rt:108:9
 returns : tie.Need-returns
 returns c =
-    row-twin-by (c .before .before .before .before .before .before .before .before .before .before .args .work .now) (c .before .before .before .before .before .before .before .before .before .before .args .i) (c .before .before .before .before .before .before .before .before .before .before .args .kind) (c .before .before .before .before .before .before .before .before .before .before .args .count) (c .before .before .before .before .before .before .before .before .before .before .pre .3) (c .before .before .before .before .before .before .before .before .before .before .pre .1) (c .before .before .before .before .before .before .before .before .before .before .args .text .now) (c .before .before .before .before .before .before .before .before .before .before .args .at) (c .before .before .before .before .before .before .before .before .before .before .args .line) (c .before .before .before .before .before .before .put-row-head .last .0) (c .before .before .before .before .before .before .put-row-head .ensures) (c .before .before .before .wide .result) (c .before .before .before .wide .ensures) (c .before .lone-twin .result) (c .before .lone-twin .ensures) (c .if1 .taken)
+    let put = c .before .before .before .before .before .before in
+    let p = put .before .before .before .before in
+    let a = p .args in
+    row-twin-by (a .work .now) (a .i) (a .kind) (p .pre .4) (p .pre .2) (put .put-row-head .ensures) (c .before .before .before .wide .ensures) (a .line) (c .before .lone-twin .ensures) (c .if1 .taken)
 
--- src/lib.rt:124:46
-add-read-members : tie.Need-add-read-members
-add-read-members c = search needs
-
--- src/lib.rt:124:5
+-- src/lib.rt:113:5
 read-members-requires : tie.Need-read-members-requires
-read-members-requires c κs = (
-  (c .before .before .before .before .before .before .before .before .before .before .before .pre .0),
-  headed-by (c .before .before .before .before .before .before .before .before .before .before .before .args .work .now) (c .before .before .before .before .before .before .before .before .before .before .before .args .i) (c .before .before .before .before .before .before .before .before .before .before .before .args .kind) (c .before .before .before .before .before .before .before .before .before .before .before .args .count) (c .before .before .before .before .before .before .before .before .before .before .before .pre .3) (c .before .before .before .before .before .before .before .before .before .before .before .pre .1) (c .before .before .before .before .before .before .before .before .before .before .before .args .text .now) (c .before .before .before .before .before .before .before .before .before .before .before .args .at) (c .before .before .before .before .before .before .before .before .before .before .before .args .line) (c .before .before .before .before .before .before .before .put-row-head .last .0) (c .before .before .before .before .before .before .before .put-row-head .ensures) (c .before .before .before .before .wide .result) (c .before .before .before .before .wide .ensures) (c .before .before .before .before .before .before .before .before .before .before .before .pre .2),
-)
+read-members-requires c κs =
+    let wide = c .before .before .before .before in
+    let put = wide .before .before .before in
+    let p = put .before .before .before .before in
+    (p .pre .0, headed-by (p .args .work .now) (p .args .i) (p .args .kind) (p .pre .4) (p .pre .2) (put .put-row-head .ensures) (wide .wide .ensures) (p .pre .3))
 
--- src/lib.rt:104:1
+-- src/lib.rt:93:1
 same-length-2 : tie.Need-same-length-2
 same-length-2 c = search needs
 
--- src/lib.rt:104:1
+-- src/lib.rt:93:1
 returns-2 : tie.Need-returns-2
 returns-2 c =
-    row-members-by (c .before .before .before .before .before .before .before .before .before .before .before .before .before .before .args .work .now) (c .before .before .before .before .before .before .before .before .before .before .before .before .before .before .args .i) (c .before .before .before .before .before .before .before .before .before .before .before .before .before .before .args .kind) (c .before .before .before .before .before .before .before .before .before .before .before .before .before .before .args .count) (c .before .before .before .before .before .before .before .before .before .before .before .before .before .before .pre .3) (c .before .before .before .before .before .before .before .before .before .before .before .before .before .before .pre .1) (c .before .before .before .before .before .before .before .before .before .before .before .before .before .before .args .text .now) (c .before .before .before .before .before .before .before .before .before .before .before .before .before .before .args .at) (c .before .before .before .before .before .before .before .before .before .before .before .before .before .before .args .line) (c .before .before .before .before .before .before .before .before .before .before .put-row-head .last .0) (c .before .before .before .before .before .before .before .before .before .before .put-row-head .ensures) (c .before .before .before .before .before .before .before .wide .result) (c .before .before .before .before .before .before .before .wide .ensures) (c .before .before .before .before .before .lone-twin .result) (c .before .before .before .before .before .lone-twin .ensures) (c .before .before .before .before .if1 .left)
-    (c .before .before .read-members .last .1 .0) (c .before .before .read-members .result) (c .before .before .read-members .ensures)
+    let twin = c .before .before .before .before .before in
+    let put = twin .before .before .before .before .before in
+    let p = put .before .before .before .before in
+    let a = p .args in
+    row-members-by (a .work .now) (a .i) (a .kind) (p .pre .4) (p .pre .2) (put .put-row-head .ensures) (twin .before .before .wide .ensures) (a .line) (p .pre .1) (twin .lone-twin .ensures) (c .before .before .before .before .if1 .left) (c .before .before .read-members .ensures)
 
 pub keep-row-spec : {M : Type 1} → statement M
 keep-row-spec =
@@ -63,7 +68,6 @@ keep-row-spec =
     lone-twin-requires
     same-length
     returns
-    add-read-members
     read-members-requires
     same-length-2
     returns-2)

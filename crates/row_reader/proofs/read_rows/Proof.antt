@@ -1,68 +1,78 @@
-use Rattle.sheet_rules.specs.RowLines.{readRow}
-use Rattle.table.specs.Layout.{rowAddress}
-use Rattle.table.specs.View.{rowIn}
-use Rattle.reader_loop.proofs.LoopLaws.{going-start, going-next, going-stop, going-end}
-use Rattle.row_reader.proofs.RowsLaws.{RowsGoing, row-turn}
-use borrow.Author.Needs.{needs}
+use Prim.Native.Nat.{_-_}
 use native.Mathlib.Omega.{arith}
-use mathlib.Core.Path.{_∙_}
-use Prim.Native.Nat.{_+_, _-_}
+use mathlib.Core.Path.{refl, _∙_}
+use borrow.Author.Needs.{needs}
+use Rattle.reader_loop.proofs.LoopLaws.{Going, going-start, going-next, going-stop, going-end}
+use Rattle.row_reader.specs.Reads.{rowItems}
+use Rattle.row_reader.proofs.RowsLaws.{row-turn}
 use Rattle.row_reader.proofs.read_rows.Statement.{statement}
 use Rattle.row_reader.proofs.read_rows.Tie as tie
+use Rattle.row_reader.proofs.read_rows.Reads as reads
+use Rattle.row_reader.proofs.read_rows.Lts as lts
+use Rattle.row_reader.proofs.read_row.Reads as read-row-reads
 
 abbrev Inv-loop : tie.InvT-loop
-Inv-loop text work₀ count from first i₀ at₀ line₀ work i at line = RowsGoing text count from first work₀ work i at line
+Inv-loop text work₀ count i₀ here₀ work i here = Going text (rowItems (here₀ .used)) count here₀ work₀ work i here
 
 abbrev μ-loop : tie.MeasureT-loop
-μ-loop text work₀ count from first i₀ at₀ line₀ work i at line = count - i
+μ-loop text work₀ count i₀ here₀ work i here = count - i
 
--- src/lib.rt:147:5
+-- src/lib.rt:140:5
 loop-holds : tie.Need-loop-holds Inv-loop μ-loop
-loop-holds c = going-start (c .before .before .args .text .now) readRow rowIn (rowAddress 0) (rowAddress 63 + 36) (c .before .before .args .count) (c .before .before .args .from) (c .before .before .args .first) (c .before .before .args .work .now) (c .before .before .pre .0)
+loop-holds c = going-start (c .before .before .pre .0) refl
 
--- src/lib.rt:148:13
+-- src/lib.rt:141:13
 read-row-requires : tie.Need-read-row-requires Inv-loop μ-loop
-read-row-requires c κs = (c .before .before .loop .inv .room, omega (arith, c .before .before .before .before .before .pre .1), omega (arith, c .before .before .loop .inv .only .size, c .before .before .before .before .before .pre .2))
+read-row-requires c κs =
+    let p = c .before .before .before .before .before .pre in
+    let g = c .before .before .loop .inv in
+    (g .room, omega (arith, p .1, c .before .loop-test .taken), omega (arith, p .2, g .only .size))
 
--- src/lib.rt:149:35
+-- src/lib.rt:142:31
 enum-known-r : tie.Need-enum-known-r Inv-loop μ-loop
 enum-known-r c = search needs
 
--- src/lib.rt:150:13
+-- src/lib.rt:143:13
 enum-told : tie.Need-enum-told Inv-loop μ-loop
 enum-told c = search needs
 
--- src/lib.rt:150:13
+-- src/lib.rt:143:13
 same-length : tie.Need-same-length Inv-loop μ-loop
-same-length c = c .before .before .before .before .read-row .ensures .only .size ∙ c .before .before .before .before .before .before .before .loop .inv .only .size
+same-length c =
+    let turn = c .before .before .before .before in
+    turn .read-row .ensures .only .size ∙ turn .before .before .before .loop .inv .only .size
 
--- src/lib.rt:150:13
+-- src/lib.rt:143:13
 returns : tie.Need-returns Inv-loop μ-loop
 returns c =
-    going-stop (c .before .before .before .before .before .before .before .before .before .before .args .text .now) readRow rowIn (rowAddress 0) (rowAddress 63 + 36) (c .before .before .before .before .before .before .before .before .before .before .args .count) (c .before .before .before .before .before .before .before .before .before .before .args .from) (c .before .before .before .before .before .before .before .before .before .before .args .first) (c .before .before .before .before .before .before .before .before .before .before .args .work .now) (c .before .before .before .before .before .before .before .loop .work) (c .before .before .before .before .before .before .before .loop .i) (c .before .before .before .before .before .before .before .loop .at) (c .before .before .before .before .before .before .before .loop .line) (c .before .before .before .before .before .before .before .loop .inv) (c .before .before .before .before .before .before .loop-test .taken) (c .before .before .before .before .read-row .last .1 .0) (c .before .before .before .before .read-row .result) _ _ (c .enum-told .given .1)
-    (row-turn (c .before .before .before .before .before .before .before .before .before .before .args .text .now) (c .before .before .before .before .before .before .before .before .before .before .args .count) (c .before .before .before .before .before .before .before .before .before .before .args .from) (c .before .before .before .before .before .before .before .before .before .before .args .first) (c .before .before .before .before .before .before .before .before .before .before .args .work .now) (c .before .before .before .before .before .before .before .before .before .before .pre .1) (c .before .before .before .before .before .before .before .loop .work) (c .before .before .before .before .before .before .before .loop .i) (c .before .before .before .before .before .before .before .loop .at) (c .before .before .before .before .before .before .before .loop .line) (c .before .before .before .before .before .before .before .loop .inv) (c .before .before .before .before .before .before .loop-test .taken) (c .before .before .before .before .read-row .last .1 .0) (c .before .before .before .before .read-row .result) (c .before .before .before .before .read-row .ensures))
+    let turn = c .before .before .before .before in
+    let loop = turn .before .before .before in
+    let l = turn .before .before .loop-test .taken in
+    going-stop (loop .loop .inv) l (c .enum-told .given .1) (row-turn (loop .loop .inv) (loop .before .before .before .pre .1) l (turn .read-row .ensures))
 
--- src/lib.rt:154:13
+-- src/lib.rt:146:13
 add-i : tie.Need-add-i Inv-loop μ-loop
 add-i c = omega arith
 
--- src/lib.rt:147:5
+-- src/lib.rt:140:5
 loop-less : tie.Need-loop-less Inv-loop μ-loop
 loop-less c = omega arith
 
--- src/lib.rt:147:5
+-- src/lib.rt:140:5
 loop-again : tie.Need-loop-again Inv-loop μ-loop
 loop-again c =
-    going-next (c .before .before .before .before .before .before .before .before .before .before .before .args .text .now) readRow rowIn (rowAddress 0) (rowAddress 63 + 36) (c .before .before .before .before .before .before .before .before .before .before .before .args .count) (c .before .before .before .before .before .before .before .before .before .before .before .args .from) (c .before .before .before .before .before .before .before .before .before .before .before .args .first) (c .before .before .before .before .before .before .before .before .before .before .before .args .work .now) (c .before .before .before .before .before .before .before .before .loop .work) (c .before .before .before .before .before .before .before .before .loop .i) (c .before .before .before .before .before .before .before .before .loop .at) (c .before .before .before .before .before .before .before .before .loop .line) (c .before .before .before .before .before .before .before .before .loop .inv) (c .before .before .before .before .before .before .before .loop-test .taken) (c .before .before .before .before .before .read-row .last .1 .0) (c .before .before .before .before .before .read-row .result) _ _ (c .before .r .given .1)
-    (row-turn (c .before .before .before .before .before .before .before .before .before .before .before .args .text .now) (c .before .before .before .before .before .before .before .before .before .before .before .args .count) (c .before .before .before .before .before .before .before .before .before .before .before .args .from) (c .before .before .before .before .before .before .before .before .before .before .before .args .first) (c .before .before .before .before .before .before .before .before .before .before .before .args .work .now) (c .before .before .before .before .before .before .before .before .before .before .before .pre .1) (c .before .before .before .before .before .before .before .before .loop .work) (c .before .before .before .before .before .before .before .before .loop .i) (c .before .before .before .before .before .before .before .before .loop .at) (c .before .before .before .before .before .before .before .before .loop .line) (c .before .before .before .before .before .before .before .before .loop .inv) (c .before .before .before .before .before .before .before .loop-test .taken) (c .before .before .before .before .before .read-row .last .1 .0) (c .before .before .before .before .before .read-row .result) (c .before .before .before .before .before .read-row .ensures))
+    let turn = c .before .before .before .before .before in
+    let loop = turn .before .before .before in
+    let l = turn .before .before .loop-test .taken in
+    going-next (loop .loop .inv) l (c .before .r .given .1) (row-turn (loop .loop .inv) (loop .before .before .before .pre .1) l (turn .read-row .ensures))
 
--- src/lib.rt:140:1
+-- src/lib.rt:134:1
 same-length-2 : tie.Need-same-length-2 Inv-loop μ-loop
 same-length-2 c = c .before .loop .inv .only .size
 
--- src/lib.rt:140:1
+-- src/lib.rt:134:1
 returns-2 : tie.Need-returns-2 Inv-loop μ-loop
-returns-2 c = going-end (c .before .before .before .before .args .text .now) readRow rowIn (rowAddress 0) (rowAddress 63 + 36) (c .before .before .before .before .args .count) (c .before .before .before .before .args .from) (c .before .before .before .before .args .first) (c .before .before .before .before .args .work .now) (c .before .loop .work) (c .before .loop .i) (c .before .loop .at) (c .before .loop .line) (c .before .loop .inv) (omega arith)
+returns-2 c = going-end (c .before .loop .inv) (omega arith)
 
 pub read-rows-spec : {M : Type 1} → statement M
 read-rows-spec =

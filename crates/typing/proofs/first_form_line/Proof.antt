@@ -1,8 +1,6 @@
 use borrow.Author.Needs.{needs}
 use native.Mathlib.Omega.{arith}
 use Prim.Native.Nat.{_-_}
-use lib.ListN.{length}
-use mathlib.Core.Path.{_≡_, sym, _∙_}
 use Rattle.table.specs.View.{sheetIn}
 use Rattle.table.proofs.RowLaws.{rows-length}
 use Rattle.typing.proofs.SheetLaws.{RowsWalk, rows-start, rows-next, rows-end}
@@ -25,7 +23,7 @@ row-count-requires c κs = (c .before .pre) .size
 
 -- src/lib.rt:22:5
 loop-holds : tie.Need-loop-holds Inv-loop μ-loop
-loop-holds c = rows-start ((sheetIn (c .before .before .args .work .now)) .rows)
+loop-holds c = rows-start
 
 -- src/lib.rt:23:16
 add-line : tie.Need-add-line Inv-loop μ-loop
@@ -41,7 +39,9 @@ cast-line c = omega (arith, c .members-at .ensures .1)
 
 -- src/lib.rt:23:16
 add-line-2 : tie.Need-add-line-2 Inv-loop μ-loop
-add-line-2 c = omega (arith, (c .before .before .loop .inv) .lined, c .before .loop-test .taken, c .before .before .before .row-count .ensures, rows-length (c .before .before .before .before .before .args .work .now), (c .before .before .before .before .before .pre) .sheet .fewRows, c .members-at .ensures .1)
+add-line-2 c =
+    let b = c .before .before .before .before .before in
+    omega (arith, c .before .before .loop .inv .lined, c .before .loop-test .taken, c .before .before .before .row-count .ensures, rows-length (b .args .work .now), b .pre .sheet .fewRows, c .members-at .ensures .1)
 
 -- src/lib.rt:24:13
 add-a : tie.Need-add-a Inv-loop μ-loop
@@ -53,12 +53,14 @@ loop-less c = omega arith
 
 -- src/lib.rt:22:5
 loop-again : tie.Need-loop-again Inv-loop μ-loop
-loop-again c = rows-next ((sheetIn (c .before .before .before .before .before .args .work .now)) .rows) (c .before .before .loop .a) (c .before .before .loop .line) (c .before .before .loop .inv) (omega (arith, c .before .loop-test .taken, c .before .before .before .row-count .ensures, rows-length (c .before .before .before .before .before .args .work .now))) (c .members-at .result) (c .members-at .ensures .0) (c .members-at .ensures .1)
+loop-again c =
+    let b = c .before .before .before .before .before in
+    rows-next (c .before .before .loop .inv) (omega (arith, c .before .loop-test .taken, c .before .before .before .row-count .ensures, rows-length (b .args .work .now))) (c .members-at .ensures .0) (c .members-at .ensures .1)
 
 -- src/lib.rt:15:1
 returns : tie.Need-returns Inv-loop μ-loop
 returns c = (
-  rows-end ((sheetIn (c .before .before .before .before .args .work .now)) .rows) (c .before .loop .a) (c .before .loop .line) (c .before .loop .inv) (omega (arith, c .loop-test .left, c .before .before .row-count .ensures, rows-length (c .before .before .before .before .args .work .now))),
+  rows-end (c .before .loop .inv) (omega (arith, c .loop-test .left, c .before .before .row-count .ensures, rows-length (c .before .before .before .before .args .work .now))),
   omega (arith, c .before .loop .inv .lined, c .before .loop .inv .within, c .before .before .before .before .pre .sheet .fewRows),
 )
 

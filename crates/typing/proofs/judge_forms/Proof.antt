@@ -2,7 +2,6 @@ use borrow.Author.Needs.{needs}
 use native.Mathlib.Omega.{arith}
 use Prim.Native.Nat.{_-_}
 use mathlib.Core.Path.{_∙_}
-use Rattle.table.specs.View.{sheetIn}
 use Rattle.typing.proofs.FormsLaws.{FormsGoing, forms-start, forms-whole, forms-in, forms-end, forms-stop, forms-next}
 use Rattle.typing.proofs.judge_forms.Statement.{statement}
 use Rattle.typing.proofs.judge_forms.Tie as tie
@@ -23,15 +22,18 @@ form-count-requires c κs = (c .before .before .pre .0)
 
 -- src/lib.rt:37:5
 loop-holds : tie.Need-loop-holds Inv-loop μ-loop
-loop-holds c = forms-start (c .before .before .before .args .first) (c .before .before .before .args .work .now)
+loop-holds c = forms-start
 
 -- src/lib.rt:38:13
 judge-form-requires : tie.Need-judge-form-requires Inv-loop μ-loop
-judge-form-requires c κs = (
-  forms-whole (c .before .before .before .before .before .before .args .first) (c .before .before .before .before .before .before .args .work .now) (c .before .before .before .before .before .before .pre .0) (c .before .before .loop .work) (c .before .before .loop .f) (c .before .before .loop .line) (c .before .before .loop .inv),
-  forms-in (c .before .before .before .before .before .before .args .first) (c .before .before .before .before .before .before .args .work .now) (c .before .before .before .before .before .before .pre .0) (c .before .before .loop .work) (c .before .before .loop .f) (c .before .before .loop .line) (c .before .before .loop .inv) (omega (arith, c .before .loop-test .taken, c .before .before .before .form-count .ensures .0)),
-  omega (arith, (c .before .before .loop .inv) .lined, (c .before .before .before .before .before .before .pre .1), c .before .loop-test .taken, c .before .before .before .form-count .ensures .1),
-)
+judge-form-requires c κs =
+    let going = c .before .before .loop .inv in
+    let count = c .before .before .before .form-count .ensures in
+    let b = c .before .before .before .before .before .before in (
+      forms-whole going (b .pre .0),
+      forms-in going (b .pre .0) (count .0) (c .before .loop-test .taken),
+      omega (arith, going .lined, b .pre .1, c .before .loop-test .taken, count .1),
+    )
 
 -- src/lib.rt:39:32
 enum-known-r : tie.Need-enum-known-r Inv-loop μ-loop
@@ -43,11 +45,16 @@ enum-told c = search needs
 
 -- src/lib.rt:40:13
 same-length : tie.Need-same-length Inv-loop μ-loop
-same-length c = c .before .before .before .before .judge-form .ensures .only .size ∙ (c .before .before .before .before .before .before .before .loop .inv) .only .size
+same-length c =
+    let b = c .before .before .before .before .before .before .before in
+    c .before .before .before .before .judge-form .ensures .only .size ∙ b .loop .inv .only .size
 
 -- src/lib.rt:40:13
 returns : tie.Need-returns Inv-loop μ-loop
-returns c = forms-stop (c .before .before .before .before .before .before .before .before .before .before .before .args .first) (c .before .before .before .before .before .before .before .before .before .before .before .args .work .now) (c .before .before .before .before .before .before .before .before .before .before .before .pre .0) (c .before .before .before .before .before .before .before .loop .work) (c .before .before .before .before .before .before .before .loop .f) (c .before .before .before .before .before .before .before .loop .line) (c .before .before .before .before .before .before .before .loop .inv) (omega (arith, c .before .before .before .before .before .before .loop-test .taken, c .before .before .before .before .before .before .before .before .form-count .ensures .0)) (c .before .before .before .before .judge-form .last .0) (c .before .before .before .before .judge-form .result) (c .before .before .before .before .judge-form .ensures) _ _ (c .enum-told .given .1)
+returns c =
+    let form = c .before .before .before .before in
+    let loop = form .before .before .before in
+    forms-stop (loop .loop .inv) (loop .before .before .before .before .pre .0) (loop .before .form-count .ensures .0) (form .before .before .loop-test .taken) (form .judge-form .ensures) (c .enum-told .given .1)
 
 -- src/lib.rt:43:13
 add-f : tie.Need-add-f Inv-loop μ-loop
@@ -59,7 +66,10 @@ loop-less c = omega arith
 
 -- src/lib.rt:37:5
 loop-again : tie.Need-loop-again Inv-loop μ-loop
-loop-again c = forms-next (c .before .before .before .before .before .before .before .before .before .before .before .before .args .first) (c .before .before .before .before .before .before .before .before .before .before .before .before .args .work .now) (c .before .before .before .before .before .before .before .before .before .before .before .before .pre .0) (c .before .before .before .before .before .before .before .before .loop .work) (c .before .before .before .before .before .before .before .before .loop .f) (c .before .before .before .before .before .before .before .before .loop .line) (c .before .before .before .before .before .before .before .before .loop .inv) (omega (arith, c .before .before .before .before .before .before .before .loop-test .taken, c .before .before .before .before .before .before .before .before .before .form-count .ensures .0)) (c .before .before .before .before .before .judge-form .last .0) (c .before .before .before .before .before .judge-form .result) (c .before .before .before .before .before .judge-form .ensures) _ (c .before .r .given .1)
+loop-again c =
+    let form = c .before .before .before .before .before in
+    let loop = form .before .before .before in
+    forms-next (loop .loop .inv) (loop .before .before .before .before .pre .0) (loop .before .form-count .ensures .0) (form .before .before .loop-test .taken) (form .judge-form .ensures) (c .before .r .given .1)
 
 -- src/lib.rt:30:1
 same-length-2 : tie.Need-same-length-2 Inv-loop μ-loop
@@ -67,7 +77,9 @@ same-length-2 c = (c .before .loop .inv) .only .size
 
 -- src/lib.rt:30:1
 returns-2 : tie.Need-returns-2 Inv-loop μ-loop
-returns-2 c = forms-end (c .before .before .before .before .before .args .first) (c .before .before .before .before .before .args .work .now) (c .before .before .before .before .before .pre .0) (c .before .loop .work) (c .before .loop .f) (c .before .loop .line) (c .before .loop .inv) (omega (arith, c .loop-test .left, c .before .before .form-count .ensures .0))
+returns-2 c =
+    let b = c .before .before .before .before .before in
+    forms-end (c .before .loop .inv) (b .pre .0) (c .before .before .form-count .ensures .0) (c .loop-test .left)
 
 pub judge-forms-spec : {M : Type 1} → statement M
 judge-forms-spec =

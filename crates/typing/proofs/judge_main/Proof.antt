@@ -1,4 +1,3 @@
-use Prim.Native.Nat.{ℕ}
 use mathlib.Core.Path.{ap₂, _∙_}
 use Rattle.table.specs.View.{instrsIn}
 use Rattle.table.proofs.SheetLaws.{main-is}
@@ -35,7 +34,9 @@ same-length c = search needs
 -- src/lib.rt:49:1
 returns : tie.Need-returns
 returns c =
-    main-judged (c .before .before .before .before .before .before .before .before .before .args .work .now) (c .before .before .before .before .before .before .before .before .before .args .line) (instrsIn (c .before .before .before .before .before .before .before .before .before .args .work .now) (c .before .before .before .before .before .before .main-start .result) (c .before .before .before .before .main-count .result)) (ap₂ (instrsIn (c .before .before .before .before .before .before .before .before .before .args .work .now)) (c .before .before .before .before .before .before .main-start .ensures) (c .before .before .before .before .main-count .ensures .0) ∙ main-is (c .before .before .before .before .before .before .before .before .before .args .work .now)) (c .before .before .judge-code .last .0) (c .before .before .judge-code .result) (c .before .before .judge-code .ensures)
+    let start = c .before .before .before .before .before .before in
+    let w = start .before .before .before .args .work .now in
+    main-judged (ap₂ (instrsIn w) (start .main-start .ensures) (c .before .before .before .before .main-count .ensures .0) ∙ main-is w) (c .before .before .judge-code .ensures)
 
 pub judge-main-spec : {M : Type 1} → statement M
 judge-main-spec =

@@ -37,14 +37,17 @@ same-length c = search needs
 
 -- src/lib.rt:84:9
 returns : tie.Need-returns
-returns c = forms-refused (c .before .before .before .before .before .before .before .before .before .before .args .work .now) (c .before .before .before .before .before .before .before .first-form-line .result) (c .before .before .before .before .before .before .before .first-form-line .ensures .0) (c .before .before .before .before .before .judge-forms .last .0) (c .before .before .before .before .before .judge-forms .result) (c .before .before .before .before .before .judge-forms .ensures) _ _ (c .before .enum-told .given .1) (c .verdict-of .result) (c .verdict-of .ensures)
+returns c =
+    let b = c .before .before .before .before .before in
+    forms-refused (b .before .before .first-form-line .ensures .0) (b .judge-forms .ensures) (c .before .enum-told .given .1) (c .verdict-of .ensures)
 
 -- src/lib.rt:86:16
 judge-main-requires : tie.Need-judge-main-requires
-judge-main-requires c κs = (
-  slots-whole (c .before .before .before .before .before .before .before .before .before .before .before .args .work .now) (c .before .before .before .before .before .before .judge-forms .last .0) (c .before .before .before .before .before .before .judge-forms .ensures .lines .only) (c .before .before .before .before .before .before .before .before .before .before .before .pre),
-  omega (arith, c .before .before .before .before .before .before .before .before .first-form-line .ensures .1, c .before .before .before .before .before .before .judge-forms .ensures .few _ (c .before .before .forms .given .1)),
-)
+judge-main-requires c κs =
+    let b = c .before .before .before .before .before .before in
+    let forms = b .judge-forms .ensures in
+    let first = b .before .before in
+    (slots-whole (forms .lines .only) (first .before .before .before .pre), omega (arith, first .first-form-line .ensures .1, forms .few _ (c .before .before .forms .given .1)))
 
 -- src/lib.rt:86:5
 verdict-of-requires-2 : tie.Need-verdict-of-requires-2
@@ -57,7 +60,9 @@ same-length-2 c = search needs
 -- src/lib.rt:77:1
 returns-2 : tie.Need-returns-2
 returns-2 c =
-    sheet-judged (c .before .before .before .before .before .before .before .before .before .before .before .before .before .before .before .args .work .now) (c .before .before .before .before .before .before .before .before .before .before .before .before .first-form-line .result) (c .before .before .before .before .before .before .before .before .before .before .before .before .first-form-line .ensures .0) (c .before .before .before .before .before .before .before .before .before .before .judge-forms .last .0) (c .before .before .before .before .before .before .before .before .before .before .judge-forms .result) (c .before .before .before .before .before .before .before .before .before .before .judge-forms .ensures) _ (c .before .before .before .before .before .before .forms .given .1) (c .before .before .before .judge-main .last .0) (c .before .before .before .judge-main .result) (c .before .before .before .judge-main .ensures .lines) (c .verdict-of2 .result) (c .verdict-of2 .ensures)
+    let on = c .before .before .before .before .before .before in
+    let b = on .before .before .before .before in
+    sheet-judged (b .before .before .first-form-line .ensures .0) (b .judge-forms .ensures) (on .forms .given .1) (c .before .before .before .judge-main .ensures .lines) (c .verdict-of2 .ensures)
 
 pub judge-sheet-spec : {M : Type 1} → statement M
 judge-sheet-spec =

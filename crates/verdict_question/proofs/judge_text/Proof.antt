@@ -26,7 +26,9 @@ same-length c = search needs
 
 -- src/lib.rt:16:9
 returns : tie.Need-returns
-returns c = text-refused (c .before .before .before .before .before .before .before .before .args .text .now) (c .before .before .before .before .before .before .before .before .args .work .now) (c .before .before .before .before .read-sheet .last .1 .0) (c .before .before .before .before .read-sheet .result) (c .before .before .before .before .before .before .before .before .pre) (c .before .before .before .before .read-sheet .ensures) _ _ (c .enum-told2 .given .1)
+returns c =
+    let b = c .before .before .before .before in
+    text-refused (b .before .before .before .before .pre) (b .read-sheet .ensures) (c .enum-told2 .given .1)
 
 -- src/lib.rt:18:9
 row-count-requires : tie.Need-row-count-requires
@@ -35,11 +37,16 @@ row-count-requires c κs = search needs
 -- src/lib.rt:19:5
 fill-requires : tie.Need-fill-requires
 fill-requires c κs =
-    fill-comparable (c .before .before .before .before .before .before .before .before .before .before .before .args .text .now) (c .before .before .before .before .before .before .before .before .before .before .before .args .work .now) (c .before .before .before .before .before .before .before .read-sheet .last .1 .0) (c .before .before .before .before .before .before .before .read-sheet .result) (c .before .before .before .before .before .before .before .before .before .before .before .pre) (c .before .before .before .before .before .before .before .read-sheet .ensures) (c .before .before .before .enum-told .given .1) (c .before .row-count .result) (c .before .row-count .ensures)
+    let b = c .before .before .before .before .before .before .before in
+    fill-comparable (b .before .before .before .before .pre) (b .read-sheet .ensures) (c .before .before .before .enum-told .given .1) (c .before .row-count .ensures)
 
 -- src/lib.rt:20:5
 judge-sheet-requires : tie.Need-judge-sheet-requires
-judge-sheet-requires c κs = filled-whole (c .before .before .before .before .before .before .before .before .before .before .before .before .before .before .before .args .text .now) (c .before .before .before .before .before .before .before .before .before .before .before .before .before .before .before .args .work .now) (c .before .before .before .before .before .before .before .before .before .before .before .read-sheet .last .1 .0) (c .before .before .before .before .before .before .before .before .before .before .before .read-sheet .result) (c .before .before .before .before .before .before .before .before .before .before .before .before .before .before .before .pre) (c .before .before .before .before .before .before .before .before .before .before .before .read-sheet .ensures) (c .before .before .before .before .before .before .before .enum-told .given .1) (c .before .before .before .before .before .row-count .result) (c .before .before .before .before .before .row-count .ensures) (c .before .before .before .fill .last .0) (c .before .before .before .fill .ensures)
+judge-sheet-requires c κs =
+    let rows = c .before .before .before .before .before in
+    let told = rows .before .before in
+    let b = told .before .before .before .before in
+    filled-whole (b .before .before .before .before .pre) (b .read-sheet .ensures) (told .enum-told .given .1) (rows .row-count .ensures) (c .before .before .before .fill .ensures)
 
 -- src/lib.rt:10:1
 same-length-2 : tie.Need-same-length-2
@@ -47,7 +54,12 @@ same-length-2 c = search needs
 
 -- src/lib.rt:10:1
 returns-2 : tie.Need-returns-2
-returns-2 c = text-judged (c .before .before .before .before .before .before .before .before .before .before .before .before .before .before .before .before .before .before .args .text .now) (c .before .before .before .before .before .before .before .before .before .before .before .before .before .before .before .before .before .before .args .work .now) (c .before .before .before .before .before .before .before .before .before .before .before .before .before .before .read-sheet .last .1 .0) (c .before .before .before .before .before .before .before .before .before .before .before .before .before .before .read-sheet .result) (c .before .before .before .before .before .before .before .before .before .before .before .before .before .before .before .before .before .before .pre) (c .before .before .before .before .before .before .before .before .before .before .before .before .before .before .read-sheet .ensures) (c .before .before .before .before .before .before .before .before .before .before .enum-told .given .1) (c .before .before .before .before .before .before .before .before .row-count .result) (c .before .before .before .before .before .before .before .before .row-count .ensures) (c .before .before .before .before .before .before .fill .last .0) (c .before .before .before .before .before .before .fill .ensures) (c .before .before .judge-sheet .last .0) (c .before .before .judge-sheet .result) (c .before .before .judge-sheet .ensures)
+returns-2 c =
+    let fill = c .before .before .before .before .before .before in
+    let rows = fill .before .before in
+    let told = rows .before .before in
+    let b = told .before .before .before .before in
+    text-judged (b .before .before .before .before .pre) (b .read-sheet .ensures) (told .enum-told .given .1) (rows .row-count .ensures) (fill .fill .ensures) (c .before .before .judge-sheet .ensures)
 
 pub judge-text-spec : {M : Type 1} → statement M
 judge-text-spec =
