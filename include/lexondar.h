@@ -22,10 +22,10 @@
 extern "C" {
 #endif
 
-/* So many 16-bit numbers a work buffer must have. */
+/* The 16-bit numbers that a work buffer must have. */
 #define LEXONDAR_WORK 32768
 
-/* So many a result buffer must have, for one holder and for all of them. */
+/* Those that a result buffer must have, for one holder and for all of them. */
 #define LEXONDAR_AUTHORITY 256
 #define LEXONDAR_REPORT 66306
 

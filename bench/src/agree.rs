@@ -7,7 +7,7 @@ use second::Outcome;
 
 /// How many sheets of each kind are run.
 const SHEETS: u32 = 3_000;
-/// A sheet that does not end in so many steps is taken for endless.
+/// A sheet that does not end in this number of steps is taken for endless.
 const LONG: u32 = 100_000;
 
 /// Compares the answers on generated sheets at budgets around each sheet's

@@ -6,7 +6,7 @@ use second::sheet::{Code, Form, Instruction, Kind, Part, Row};
 use second::Sheet;
 use std::fmt::Write;
 
-/// The program, which runs main so many times.
+/// The program, which runs main `runs` times.
 pub fn program(sheet: &Sheet, runs: u32) -> String {
     let mut text = String::from("local made = 0\n");
     for number in 0..sheet.forms.len() {

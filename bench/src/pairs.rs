@@ -71,7 +71,7 @@ impl Pair {
         ]
     }
 
-    /// The cells under the heads; the speed where so many bytes are read.
+    /// The cells under the heads; the speed where `read` bytes are read.
     pub fn cells(self, read: Option<usize>) -> Vec<String> {
         let [here, second] = self.times;
         let [counted, counted_second] = self.counts;

@@ -75,7 +75,7 @@ struct Text {
 }
 
 impl Text {
-    /// Of a sheet whose run is short so many runs are made.
+    /// Of a sheet whose run is short `runs` runs are made.
     fn new(work: &Work, levels: usize, runs: u32) -> Text {
         let text = (work.sheet)(levels);
         let wanted = second::run(text.as_bytes(), u32::MAX);
@@ -133,7 +133,7 @@ fn lua_time(text: &Text) -> Timed<'_> {
     })
 }
 
-/// A module's code, which makes so many runs.
+/// A module's code, which makes `runs` runs.
 fn wasm_code(sheet: &Sheet, runs: u32) -> Scratch {
     let text = Scratch::new("run.wat", wasm::module(sheet, runs).as_bytes());
     let code = Scratch::new(&format!("run-{runs}.wasm"), &[]);

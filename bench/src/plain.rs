@@ -75,7 +75,7 @@ impl Program {
         program
     }
 
-    /// Runs for at most so many steps.
+    /// Runs for at most `budget` steps.
     pub fn run(&self, budget: u32) -> RunAnswer {
         let table = Table {
             lines: self.lines.as_ptr(),

@@ -6,7 +6,7 @@ use std::fmt::Write;
 const UNITS: usize = 63;
 const INSTRUCTIONS: usize = 1_024;
 
-/// An accepted sheet of at most so many bytes, and as near to it as one more
+/// An accepted sheet of at most `bytes` bytes, and as near to it as one more
 /// row with its form, or one more instruction, allows. Some 13,700 bytes are
 /// the most that it comes to.
 pub fn plain(bytes: usize) -> String {
@@ -19,8 +19,8 @@ pub fn plain(bytes: usize) -> String {
     sheet(units, more.unwrap_or(0))
 }
 
-/// So many units, each a row and its form, and so many more instructions,
-/// spread over the bodies.
+/// `units` units, each a row and its form, and `more` more instructions, spread
+/// over the bodies.
 fn sheet(units: usize, more: usize) -> String {
     let mut text = format!("types={}\ntype=0,0\n", units + 1);
     for unit in 1..=units {

@@ -28,8 +28,8 @@ const fn work(name: &'static str, sheet: fn(usize) -> String, runs: u32) -> Work
     Work { name, sheet, runs }
 }
 
-/// So many forms of row 1, each of which keeps the object beneath it and calls
-/// that object's method 0 so many times.
+/// `count` forms of row 1, each of which keeps the object beneath it and calls
+/// that object's method 0 `calls` times.
 fn nest(count: usize, calls: usize) -> String {
     let code = "call=2,0,1\n".repeat(calls);
     format!("form=1,1\nkeep=1\nbody={calls}\n{code}").repeat(count)

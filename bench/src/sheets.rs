@@ -3,7 +3,7 @@
 use crate::rows::{last_method, rows};
 use std::fmt::Write;
 
-/// A text may have so many bytes.
+/// The most bytes that a text may have.
 const TEXT: usize = 65_535;
 
 /// The longest sheet that can be accepted. A `new` of eight slots with two
@@ -41,7 +41,7 @@ pub fn longest() -> String {
     text + "form=0,0\nmain=1\nnew=63\n"
 }
 
-/// So many `new` of a form of row 10; only the first line has no slot yet
+/// A body of `count` `new` of a form of row 10; only the first line has no slot yet
 /// whose number has two digits.
 fn long_body(count: usize) -> String {
     let first = format!("body={count}\nnew=62{}\n", ",1".repeat(8));

@@ -68,7 +68,7 @@ pub fn whole(number: u64) -> String {
     threes.join(",")
 }
 
-/// A number with so many decimals; nothing where there is none.
+/// A number with `decimals` decimals; nothing where there is none.
 pub fn decimal(number: impl Into<Option<f64>>, decimals: usize) -> String {
     let number: Option<f64> = number.into();
     number.map_or(String::new(), |number| format!("{number:.decimals$}"))

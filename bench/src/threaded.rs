@@ -92,7 +92,7 @@ impl Program {
         program
     }
 
-    /// Runs for at most so many steps.
+    /// Runs for at most `budget` steps.
     pub fn run(&self, budget: u32) -> RunAnswer {
         let asked = Asked {
             main: &self.units[self.main],
@@ -105,7 +105,7 @@ impl Program {
         unsafe { threaded_run(&asked) }.told()
     }
 
-    /// Adds a body, or main, that starts with so many filled slots.
+    /// Adds a body, or main, that starts with `filled` filled slots.
     fn add(&mut self, sheet: &Sheet, own: Option<&Form>, code: &Code, filled: usize, end: Handler) {
         let field = |name: u16| own.map_or(0, |form| field_place(sheet, form, name));
         for (place, placed) in code.iter().enumerate() {

@@ -7,7 +7,7 @@ use std::time::Instant;
 /// Does something and tells how long it took.
 pub type Timed<'a> = Box<dyn FnMut() -> f64 + 'a>;
 
-/// The best time of each over so many rounds. In a round each has its turn, so
+/// The best time of each over `rounds` rounds. In a round each has its turn, so
 /// that a slow spell of the machine hits all alike.
 pub fn best(rounds: usize, timed: &mut [Timed]) -> Vec<f64> {
     let mut best = vec![f64::INFINITY; timed.len()];
@@ -19,7 +19,7 @@ pub fn best(rounds: usize, timed: &mut [Timed]) -> Vec<f64> {
     best
 }
 
-/// Nanoseconds of one call among so many.
+/// Nanoseconds of one call among `repeats`.
 pub fn timed(repeats: u32, mut call: Call) -> Timed {
     Box::new(move || {
         let start = Instant::now();

@@ -1,5 +1,5 @@
 //! A sheet as a WebAssembly module: a body is a function, a slot a local, an
-//! object 17 numbers in memory. Its export runs main so many times and gives
+//! object 17 numbers in memory. Its export runs main a number of times and gives
 //! the number of main's last object.
 
 use second::sheet::{Code, Instruction, Part, Row};

@@ -1,12 +1,12 @@
 //! The questions as a terminal calls them: numbers, and buffers of any length.
 
-/// So many numbers of the work buffer are used.
+/// The numbers of the work buffer that are used.
 pub const WORK: usize = 32_768;
 
-/// So many places of the result buffer an authority asks for.
+/// The places of the result buffer that an authority asks for.
 pub const AUTHORITY: usize = 256;
 
-/// So many places of the result buffer a report asks for: two and 256 for
+/// The places of the result buffer that a report asks for: two and 256 for
 /// main and for each of 256 objects.
 pub const REPORT: usize = 66_306;
 

@@ -18,7 +18,7 @@ pub struct Writer<'a> {
 }
 
 impl Writer<'_> {
-    /// So many instructions; the last one's slot fits `asked`, if given,
+    /// `count` instructions; the last one's slot fits `asked`, if given,
     /// and `last` is used where nothing else fits.
     pub fn write(&mut self, count: usize, asked: Option<u16>, last: Option<Filled>) -> Vec<Line> {
         let mut lines = Vec::new();

@@ -45,7 +45,7 @@ fn numbers(text: &[u8]) -> Vec<usize> {
         .collect()
 }
 
-/// The text with a number of so many digits in place of one of its own.
+/// The text with a number of `digits` digits in place of one of its own.
 fn with_number(rng: &mut Rng, text: &[u8], digits: usize) -> Vec<u8> {
     let start = rng.pick(&numbers(text));
     let length = text[start..]

@@ -117,7 +117,7 @@ fn forms(count: usize, last: &str) -> String {
     format!("types=1\ntype=1,0\nforms={count}\n{forms}main=1\n{last}\n")
 }
 
-/// A form that keeps so many values, made with so many slots.
+/// A form that keeps `kept` values, made with `given` slots.
 fn keeps(kept: usize, given: usize) -> String {
     let keeps = "keep=0\n".repeat(kept);
     let slots = ",0".repeat(given);
@@ -135,7 +135,7 @@ fn code(body: usize, main: usize) -> String {
     )
 }
 
-/// So many bodies of 32, one more of `last` if that is not 0, and main.
+/// `bodies` bodies of 32, one more of `last` if that is not 0, and main.
 fn total(bodies: usize, last: usize, main: usize) -> String {
     let counts: Vec<usize> = [vec![32; bodies], vec![last; usize::from(last > 0)]].concat();
     let mut text = String::from("types=2\ntype=0,0\ntype=1,1\ndef=0,0,0\n");
@@ -179,7 +179,7 @@ fn lower(row: usize) -> String {
     )
 }
 
-/// Main makes so many objects after 250 others.
+/// Main makes `more` objects after 250 others.
 fn objects(more: usize) -> String {
     let main = 10 + more;
     let body = "new=0\n".repeat(31);

@@ -20,7 +20,7 @@ mod tower;
 use draft::{render, Draft};
 use rng::Rng;
 
-/// After so many indexes the kinds come round again.
+/// After this number of indexes the kinds come round again.
 pub const ROTATION: u64 = 20;
 
 /// The sheet of a seed and an index.

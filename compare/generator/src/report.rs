@@ -22,7 +22,7 @@ pub struct Report {
     pub uses: [u64; NAMES.len()],
 }
 
-/// Judges and runs so many sheets of a seed.
+/// Judges and runs `count` sheets of a seed.
 pub fn report(seed: u64, count: u64) -> Report {
     let mut report = Report::default();
     for index in 0..count {

@@ -7,7 +7,7 @@ pub struct Style {
     pub members: usize,
     /// Names are below this.
     pub names: usize,
-    /// So many members of a hundred are fields.
+    /// How many members of a hundred are fields.
     pub fields: usize,
     pub forms: usize,
     pub keeps: usize,

@@ -75,56 +75,57 @@ module _ (w : List ℕ) (whole : Whole w) (form row : ℕ) (er : row ≡ (formAt
 
 -- WHAT IS MARKED
 
-module _ (w : List ℕ) (n : ℕ) (s : Stored w n) (h : ℕ) (l : h < n) (own : OwnSmall w h) (form : ℕ) (ef : form ≡ cell w (objectAddress h))
-    (kept : ℕ) (ek : (kept ≡ keptCount (sheetIn w) form) × (kept ≤ 8)) (fields : ℕ) (el : (fields ≡ fieldCount (sheetIn w) form) × (fields ≤ 8)) where
+module _ {w : List ℕ} {n : ℕ} (s : Stored w n) {h : ℕ} (l : h < n) (own : OwnSmall w h) {form : ℕ} (ef : form ≡ cell w (objectAddress h))
+    {kept : ℕ} (ek : (kept ≡ keptCount (sheetIn w) form) × (kept ≤ 8)) {fields : ℕ} (el : (fields ≡ fieldCount (sheetIn w) form) × (fields ≤ 8)) where
   pub own-small : h < 256
   own-small = omega (arith, s .few)
 
-  kept-place : (i : ℕ) → i < kept → 20048 + 17 * h + 1 + i ≡ keptAddress h i
-  kept-place i k = omega (arith, own-small, ek .1)
+  -- the object's numbers begin at oa, as is asked once for the kept values, and once more for the fields
+  module _ {w₁ : List ℕ} (a₁ : Added w (h ∷ []) w₁) {oa : ℕ} (at : oa ≡ objectAddress h) where
+    kept-place : (i : ℕ) → i < kept → oa + 1 + i ≡ keptAddress h i
+    kept-place i k = omega (arith, own-small, ek .1)
 
-  field-place : (i : ℕ) → i < fields → 20048 + 17 * h + 9 + i ≡ fieldAddress h i
-  field-place i k = omega (arith, own-small, el .1)
-
-  module _ (w₁ : List ℕ) (a₁ : Added w (h ∷ []) w₁) where
-    pub kept-asks : (20048 + 17 * h + 1 + kept ≤ stateEnd) × Small w₁ (20048 + 17 * h + 1) kept × (workSize ≤ length w₁)
+    pub kept-asks : (oa + 1 + kept ≤ stateEnd) × Small w₁ (oa + 1) kept × (workSize ≤ length w₁)
     kept-asks = (
       omega (arith, own-small, ek .1),
-      λ i k. subst (λ (x : ℕ). x < 256) (sym (a₁ .only .below (20048 + 17 * h + 1 + i) (omega (arith, own-small, ek .1)) ∙ ap (cell w) (kept-place i k)))
+      λ i k. subst (λ (x : ℕ). x < 256) (sym (a₁ .only .below (oa + 1 + i) (omega (arith, own-small, ek .1)) ∙ ap (cell w) (kept-place i k)))
           (own .kept i (omega (arith, ek .0, ap (keptCount (sheetIn w)) ef))),
       omega (arith, a₁ .only .size, s .whole .size),
     )
 
-    kept-are : numbersFrom w₁ (20048 + 17 * h + 1) kept ≡ (objectAt (objectsIn (sheetIn w) w n) h) .kept
+    kept-are : numbersFrom w₁ (oa + 1) kept ≡ (objectAt (objectsIn (sheetIn w) w n) h) .kept
     unfolding objectIn
     kept-are =
-        tab-ext (λ i. cell w₁ (20048 + 17 * h + 1 + i)) (λ i. cell w (keptAddress h i)) kept
-        (λ i k. a₁ .only .below (20048 + 17 * h + 1 + i) (omega (arith, own-small, ek .1)) ∙ ap (cell w) (kept-place i k))
+        tab-ext (λ i. cell w₁ (oa + 1 + i)) (λ i. cell w (keptAddress h i)) kept
+        (λ i k. a₁ .only .below (oa + 1 + i) (omega (arith, own-small, ek .1)) ∙ ap (cell w) (kept-place i k))
         ∙ ap (λ (m : ℕ). tab (λ i. cell w (keptAddress h i)) m) (ek .0 ∙ ap (keptCount (sheetIn w)) ef)
         ∙ sym (ap (λ (x : Object). x .kept) (getD-tab (objectIn (sheetIn w) w) n h noObject l))
 
-    module _ (w₂ : List ℕ) (a₂ : Added w₁ (numbersFrom w₁ (20048 + 17 * h + 1) kept) w₂) where
+    module _ {w₂ : List ℕ} (a₂ : Added w₁ (numbersFrom w₁ (oa + 1) kept) w₂) {oa₂ : ℕ} (from : oa₂ ≡ objectAddress h) where
+      field-place : (i : ℕ) → i < fields → oa₂ + 9 + i ≡ fieldAddress h i
+      field-place i k = omega (arith, own-small, el .1)
+
       below₂ : (i : ℕ) → i < stateEnd → cell w₂ i ≡ cell w i
       below₂ i k = a₂ .only .below i k ∙ a₁ .only .below i k
 
-      pub fields-asks : (20048 + 17 * h + 9 + fields ≤ stateEnd) × Small w₂ (20048 + 17 * h + 9) fields × (workSize ≤ length w₂)
+      pub fields-asks : (oa₂ + 9 + fields ≤ stateEnd) × Small w₂ (oa₂ + 9) fields × (workSize ≤ length w₂)
       fields-asks = (
         omega (arith, own-small, el .1),
-        λ i k. subst (λ (x : ℕ). x < 256) (sym (below₂ (20048 + 17 * h + 9 + i) (omega (arith, own-small, el .1)) ∙ ap (cell w) (field-place i k)))
+        λ i k. subst (λ (x : ℕ). x < 256) (sym (below₂ (oa₂ + 9 + i) (omega (arith, own-small, el .1)) ∙ ap (cell w) (field-place i k)))
             (own .fields i (omega (arith, el .0, ap (fieldCount (sheetIn w)) ef))),
         omega (arith, a₂ .only .size, a₁ .only .size, s .whole .size),
       )
 
-      fields-are : numbersFrom w₂ (20048 + 17 * h + 9) fields ≡ (objectAt (objectsIn (sheetIn w) w n) h) .fields
+      fields-are : numbersFrom w₂ (oa₂ + 9) fields ≡ (objectAt (objectsIn (sheetIn w) w n) h) .fields
       unfolding objectIn
       fields-are =
-          tab-ext (λ i. cell w₂ (20048 + 17 * h + 9 + i)) (λ i. cell w (fieldAddress h i)) fields
-          (λ i k. below₂ (20048 + 17 * h + 9 + i) (omega (arith, own-small, el .1)) ∙ ap (cell w) (field-place i k))
+          tab-ext (λ i. cell w₂ (oa₂ + 9 + i)) (λ i. cell w (fieldAddress h i)) fields
+          (λ i k. below₂ (oa₂ + 9 + i) (omega (arith, own-small, el .1)) ∙ ap (cell w) (field-place i k))
           ∙ ap (λ (m : ℕ). tab (λ i. cell w (fieldAddress h i)) m) (el .0 ∙ ap (fieldCount (sheetIn w)) ef)
           ∙ sym (ap (λ (x : Object). x .fields) (getD-tab (objectIn (sheetIn w) w) n h noObject l))
 
-      pub own-marked : (w₃ : List ℕ) → Added w₂ (numbersFrom w₂ (20048 + 17 * h + 9) fields) w₃ → Added w (ownValues h (objectAt (objectsIn (sheetIn w) w n) h)) w₃
-      own-marked w₃ a₃ =
+      pub own-marked : {w₃ : List ℕ} → Added w₂ (numbersFrom w₂ (oa₂ + 9) fields) w₃ → Added w (ownValues h (objectAt (objectsIn (sheetIn w) w n) h)) w₃
+      own-marked {w₃} a₃ =
           subst (λ (xs : List ℕ). Added w xs w₃) (λ i. h ∷ (kept-are i ++ fields-are i))
-          (added-after w w₂ w₃ (h ∷ numbersFrom w₁ (20048 + 17 * h + 1) kept) (numbersFrom w₂ (20048 + 17 * h + 9) fields)
-          (added-after w w₁ w₂ (h ∷ []) (numbersFrom w₁ (20048 + 17 * h + 1) kept) a₁ a₂) a₃)
+          (added-after w w₂ w₃ (h ∷ numbersFrom w₁ (oa + 1) kept) (numbersFrom w₂ (oa₂ + 9) fields)
+          (added-after w w₁ w₂ (h ∷ []) (numbersFrom w₁ (oa + 1) kept) a₁ a₂) a₃)

@@ -62,7 +62,7 @@ fn mark_frame(
     if holder != h {
         return holder;
     }
-    authority_marks::mark_all(work, 24400 + 48 * f + 4, filled);
+    authority_marks::mark_all(work, machine_state::frame_at(f) + 4, filled);
     holder
 }
 

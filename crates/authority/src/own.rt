@@ -13,6 +13,7 @@ ghost use Rattle.authority.specs.Laid.{Stored, OwnSmall};
 use authority_marks::mark;
 use authority_marks::mark_all;
 use machine_state::form_of;
+use machine_state::object_at;
 use sheet_rules::Member;
 use table::rows::wide;
 
@@ -52,6 +53,6 @@ pub fn mark_own(work: &mut [u16], n: usize, h: usize)
     let kept = table::forms::keeps_of(work, form);
     let fields = field_count(work, form);
     mark(work, h);
-    mark_all(work, 20048 + 17 * h + 1, kept);
-    mark_all(work, 20048 + 17 * h + 9, fields);
+    mark_all(work, object_at(h) + 1, kept);
+    mark_all(work, object_at(h) + 9, fields);
 }

@@ -66,13 +66,7 @@ pub fn ask_authority(
 ) -> AuthorityReply
     ensures { λ r. ⌜ AuthorityAsked (now (text .entry)) budget h (now (work .entry)) (now (result .entry)) (now (work .exit)) (now (result .exit)) r ⌝ }
 {
-    if work.len() < 32768 {
-        return AuthorityReply::Refused {
-            reason: Reason::BufferTooShort,
-            line: 0,
-        };
-    }
-    if result.len() < 256 {
+    if !question::enough(work.len(), 256, result.len()) {
         return AuthorityReply::Refused {
             reason: Reason::BufferTooShort,
             line: 0,

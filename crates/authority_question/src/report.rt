@@ -46,13 +46,7 @@ fn report_of(text: &[u8], budget: u32, work: &mut [u16], result: &mut [u16]) -> 
 pub fn ask_report(text: &[u8], budget: u32, work: &mut [u16], result: &mut [u16]) -> ReportReply
     ensures { λ r. ⌜ ReportAsked (now (text .entry)) budget (now (work .entry)) (now (result .entry)) (now (work .exit)) (now (result .exit)) r ⌝ }
 {
-    if work.len() < 32768 {
-        return ReportReply::Refused {
-            reason: Reason::BufferTooShort,
-            line: 0,
-        };
-    }
-    if result.len() < 66306 {
+    if !question::enough(work.len(), 66306, result.len()) {
         return ReportReply::Refused {
             reason: Reason::BufferTooShort,
             line: 0,

@@ -11,6 +11,7 @@ use lib.Bits.{bitAnd}
 use borrow.Author.Tests.{eq-eqb, ne-eqb, ltb-true}
 use Rattle.lists.proofs.InLaws.{in-getD}
 use Rattle.lists.proofs.Tests.{and-left, and-right, T→true}
+use Rattle.sheet_rules.specs.declared.Kind.{Kind}
 use Rattle.sheet_rules.specs.declared.Member.{Member}
 use Rattle.sheet_rules.specs.declared.Member.the-variants.{Method, Field}
 use Rattle.sheet_rules.specs.declared.FitAnswer.{FitAnswer}
@@ -101,28 +102,32 @@ module _ (w : List ℕ) (x y : Member) (named : nameOf x ≡ nameOf y) where
   pub field-method : (n r n′ a′ r′ : ℕ) → x ≡ Field n r → y ≡ Method n′ a′ r′ → BothMatch w x y 0
   field-method n r n′ a′ r′ p q = record { first = sym (ap₂ (matches (tells w)) p q); second = sym (ap₂ (matches (tellsBack w)) q p) }
 
--- two rows: what the walk leaves of what the kinds allow is the rule's word
+-- two rows: what their kinds allow, read as x and y
+
+pub kinds-allow : {a b x y : Kind} {p q : Kind} → x ≡ a → x ≡ p → y ≡ b → y ≡ q → twoBits (kindFits p q) (kindFits q p) ≡ twoBits (kindFits a b) (kindFits b a)
+kinds-allow e h f l = sym (ap₂ (λ (a b : Kind). twoBits (kindFits a b) (kindFits b a)) (sym e ∙ h) (sym f ∙ l))
+
+-- what the walk leaves of what the kinds allow is the rule's word
 
 kinds-first : (b : Bool) (t : FitAnswer) → (b && isYes t) ≡ isYes (cond b t WrongKind)
 kinds-first true t = refl
 kinds-first false t = refl
 
-module _ (w : List ℕ) (m k kinds said : ℕ)
+said-is : (t : FitAnswer) (b : Bool) {x l : Bool} → l ≡ (x && isYes t) → x ≡ b → l ≡ isYes (cond b t WrongKind)
+said-is t b e h = e ∙ ap (λ (y : Bool). y && isYes t) h ∙ kinds-first b t
+
+module _ {w : List ℕ} {m k kinds said : ℕ}
     (e : kinds ≡ twoBits (kindFits ((rowIn w m) .kind) ((rowIn w k) .kind)) (kindFits ((rowIn w k) .kind) ((rowIn w m) .kind)))
     (r : Walked w m k kinds said) where
   first-said : firstBit said ≡ ruleTells w m k
   first-said =
-      r .first
-      ∙ ap (λ (b : Bool). b && isYes (membersAnswer (tells w) ((rowIn w m) .members) ((rowIn w k) .members)))
+      said-is (membersAnswer (tells w) ((rowIn w m) .members) ((rowIn w k) .members)) (kindFits ((rowIn w m) .kind) ((rowIn w k) .kind)) (r .first)
       (ap firstBit e ∙ first-bit (kindFits ((rowIn w m) .kind) ((rowIn w k) .kind)) (kindFits ((rowIn w k) .kind) ((rowIn w m) .kind)))
-      ∙ kinds-first (kindFits ((rowIn w m) .kind) ((rowIn w k) .kind)) (membersAnswer (tells w) ((rowIn w m) .members) ((rowIn w k) .members))
 
   second-said : secondBit said ≡ ruleTellsBack w m k
   second-said =
-      r .second
-      ∙ ap (λ (b : Bool). b && isYes (membersAnswer (tellsBack w) ((rowIn w k) .members) ((rowIn w m) .members)))
+      said-is (membersAnswer (tellsBack w) ((rowIn w k) .members) ((rowIn w m) .members)) (kindFits ((rowIn w k) .kind) ((rowIn w m) .kind)) (r .second)
       (ap secondBit e ∙ second-bit (kindFits ((rowIn w m) .kind) ((rowIn w k) .kind)) (kindFits ((rowIn w k) .kind) ((rowIn w m) .kind)))
-      ∙ kinds-first (kindFits ((rowIn w k) .kind) ((rowIn w m) .kind)) (membersAnswer (tellsBack w) ((rowIn w k) .members) ((rowIn w m) .members))
 
   bits-small : (a b : Bool) → twoBits a b ≤ 3
   bits-small true true = omega arith
@@ -136,8 +141,8 @@ module _ (w : List ℕ) (m k kinds said : ℕ)
   pub pair-said : said ≡ twoBits (ruleTells w m k) (ruleTellsBack w m k)
   pair-said = bits-are said said-small ∙ ap₂ twoBits first-said second-said
 
-  pub pair-turned : (t : ℕ) → t ≡ twoBits (secondBit said) (firstBit said) → t ≡ twoBits (ruleTellsBack w m k) (ruleTells w m k)
-  pair-turned t h = h ∙ ap₂ twoBits second-said first-said
+  pub pair-turned : {t : ℕ} → t ≡ twoBits (secondBit said) (firstBit said) → t ≡ twoBits (ruleTellsBack w m k) (ruleTells w m k)
+  pair-turned h = h ∙ ap₂ twoBits second-said first-said
 
 -- members that are the same, from the first on: none yet, one more
 

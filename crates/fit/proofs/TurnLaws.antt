@@ -32,11 +32,11 @@ and-last : (a b : Bool) → b ≡ true → (a && b) ≡ a
 and-last true b e = e
 and-last false b e = refl
 
-module _ (w : List ℕ) (m k before : ℕ) where
+module _ {w : List ℕ} {m k before : ℕ} where
   -- the walk begins after members that are the same in both rows
-  pub begun : (n : ℕ) → WellFormedRow m (rowIn w m) → WellFormedRow k (rowIn w k) → SelfFit m w → Alike w m k n
+  pub begun : {n : ℕ} → WellFormedRow m (rowIn w m) → WellFormedRow k (rowIn w k) → SelfFit m w → Alike w m k n
       → Going w m k before n n before
-  begun n p q self a =
+  begun {n} p q self a =
       record {
         within = omega arith;
         first = ap (λ (b : Bool). firstBit before && b) (sym (onward-alike (tells w) w m k m n there (p .names) (q .names) (a .first) (a .second) (a .same) lower));
@@ -55,7 +55,7 @@ module _ (w : List ℕ) (m k before : ℕ) where
       lower : (t : ℕ) → t < n → T (mentionsBelow m (memberIn w m t))
       lower t u = member-mentions w m p t (let e = a .first in omega arith)
 
-  module _ (i j left : ℕ) (g : Going w m k before i j left) where
+  module _ {i j left : ℕ} (g : Going w m k before i j left) where
     pub turned : (i′ j′ found : ℕ) → onward (tells w) w m k i j ≡ (firstBit found && onward (tells w) w m k i′ j′)
         → onward (tellsBack w) w k m j i ≡ (secondBit found && onward (tellsBack w) w k m j′ i′) → Going w m k before i′ j′ (bitAnd left found)
     turned i′ j′ found p q =
@@ -92,44 +92,45 @@ module _ (w : List ℕ) (m k before : ℕ) where
         }
 
   -- or one row has members left that the other lacks
-  pub stopped : (i j left found : ℕ) → Going w m k before i j left → onward (tells w) w m k i j ≡ firstBit found
+  pub stopped : {i j left : ℕ} (found : ℕ) → Going w m k before i j left → onward (tells w) w m k i j ≡ firstBit found
       → onward (tellsBack w) w k m j i ≡ secondBit found → Walked w m k before (bitAnd left found)
   unfolding onward
-  stopped i j left found g p q =
+  stopped {i} {j} {left} found g p q =
       record {
         within = (let h = and-le-l left found in let l = g .within in omega arith);
         first = first-and left found ∙ ap (λ (b : Bool). firstBit left && b) (sym p) ∙ g .first;
         second = second-and left found ∙ ap (λ (b : Bool). secondBit left && b) (sym q) ∙ g .second;
       }
 
--- what the code meets on its way
+-- what the code meets on its way, where row m has x members and row k has y
 
-module _ (w : List ℕ) (m k before i j left : ℕ) (p : WellFormedRow m (rowIn w m)) (q : WellFormedRow k (rowIn w k)) (g : Going w m k before i j left) where
-  pub both-ended : cell w (rowAddress m + 1) ≤ i → cell w (rowAddress k + 1) ≤ j → Walked w m k before left
-  both-ended h l = ended w m k before i j left g (onward-met (tells w) w m k i j l) (onward-met (tellsBack w) w k m j i h)
+module _ {w : List ℕ} {m k before i j left x y : ℕ} (p : WellFormedRow m (rowIn w m)) (q : WellFormedRow k (rowIn w k)) (ex : x ≡ cell w (rowAddress m + 1)) (ey : y ≡ cell w (rowAddress k + 1))
+    (g : Going w m k before i j left) where
+  pub both-ended : x ≤ i → y ≤ j → Walked w m k before left
+  both-ended h l = ended g (onward-met (tells w) w m k i j (omega arith)) (onward-met (tellsBack w) w k m j i (omega arith))
 
-  pub first-ended : cell w (rowAddress m + 1) ≤ i → j < cell w (rowAddress k + 1) → Walked w m k before (bitAnd left 2)
-  first-ended h l = stopped w m k before i j left 2 g (onward-none (tells w) w m k i j h l) (onward-met (tellsBack w) w k m j i h)
+  pub first-ended : x ≤ i → j < y → Walked w m k before (bitAnd left 2)
+  first-ended h l = stopped 2 g (onward-none (tells w) w m k i j (omega arith) (omega arith)) (onward-met (tellsBack w) w k m j i (omega arith))
 
-  pub second-ended : i < cell w (rowAddress m + 1) → cell w (rowAddress k + 1) ≤ j → Walked w m k before (bitAnd left 1)
-  second-ended h l = stopped w m k before i j left 1 g (onward-met (tells w) w m k i j l) (onward-none (tellsBack w) w k m j i l h)
+  pub second-ended : i < x → y ≤ j → Walked w m k before (bitAnd left 1)
+  second-ended h l = stopped 1 g (onward-met (tells w) w m k i j (omega arith)) (onward-none (tellsBack w) w k m j i (omega arith) (omega arith))
 
-  module _ (h : i < cell w (rowAddress m + 1)) (l : j < cell w (rowAddress k + 1)) where
+  module _ (h : i < x) (l : j < y) where
     pub first-lower : nameOf (memberIn w m i) < nameOf (memberIn w k j) → Going w m k before (i + 1) j (bitAnd left 1)
     first-lower e =
-        turned w m k before i j left g (i + 1) j 1 (onward-skip (tells w) w m k i j (p .names) (q .names) h l e)
-        (onward-lack (tellsBack w) w k m j i (q .names) (p .names) l h e)
+        turned g (i + 1) j 1 (onward-skip (tells w) w m k i j (p .names) (q .names) (omega arith) (omega arith) e)
+        (onward-lack (tellsBack w) w k m j i (q .names) (p .names) (omega arith) (omega arith) e)
 
     pub second-lower : nameOf (memberIn w k j) < nameOf (memberIn w m i) → Going w m k before i (j + 1) (bitAnd left 2)
     second-lower e =
-        turned w m k before i j left g i (j + 1) 2 (onward-lack (tells w) w m k i j (p .names) (q .names) h l e)
-        (onward-skip (tellsBack w) w k m j i (q .names) (p .names) l h e)
+        turned g i (j + 1) 2 (onward-lack (tells w) w m k i j (p .names) (q .names) (omega arith) (omega arith) e)
+        (onward-skip (tellsBack w) w k m j i (q .names) (p .names) (omega arith) (omega arith) e)
 
-    pub one-name : nameOf (memberIn w m i) ≡ nameOf (memberIn w k j) → (r : ℕ) → BothMatch w (memberIn w m i) (memberIn w k j) r
+    pub one-name : nameOf (memberIn w m i) ≡ nameOf (memberIn w k j) → {r : ℕ} → BothMatch w (memberIn w m i) (memberIn w k j) r
         → Going w m k before (i + 1) (j + 1) (bitAnd left r)
-    one-name e r b =
-        turned w m k before i j left g (i + 1) (j + 1) r
-        (onward-both (tells w) w m k i j (p .names) (q .names) h l e
+    one-name e {r} b =
+        turned g (i + 1) (j + 1) r
+        (onward-both (tells w) w m k i j (p .names) (q .names) (omega arith) (omega arith) e
         ∙ ap (λ (t : Bool). t && onward (tells w) w m k (i + 1) (j + 1)) (sym (b .first)))
-        (onward-both (tellsBack w) w k m j i (q .names) (p .names) l h (sym e)
+        (onward-both (tellsBack w) w k m j i (q .names) (p .names) (omega arith) (omega arith) (sym e)
         ∙ ap (λ (t : Bool). t && onward (tellsBack w) w k m (j + 1) (i + 1)) (sym (b .second)))

@@ -29,7 +29,7 @@ use Rattle.fit.proofs.SheetLaws.{sheet-tells}
 
 -- over the table
 
-module _ (a b : ℕ) (w : List ℕ) (rows : ℕ) (counted : rows ≡ length ((sheetIn w) .rows)) where
+module _ (a b : ℕ) (w : List ℕ) {rows : ℕ} (counted : rows ≡ length ((sheetIn w) .rows)) where
   answer : Bool → Bool → FitReply
   answer x y = cond (x && y) (cond (fits ((sheetIn w) .rows) a b) FitReply.Fits FitReply.FitsNot) (FitReply.Refused NotDefined 0)
 
@@ -61,7 +61,7 @@ module _ (a b : ℕ) (w : List ℕ) (rows : ℕ) (counted : rows ≡ length ((sh
         only = only-refl 0 workSize w;
       }
 
-  module _ (ha : a < rows) (hb : b < rows) (counted-here : rows ≡ cell w rowCountAt) (w′ : List ℕ) (filled : FitFilled rows w w′) where
+  module _ (ha : a < rows) (hb : b < rows) (counted-here : rows ≡ cell w rowCountAt) {w′ : List ℕ} (filled : FitFilled rows w w′) where
     there : fitIn (sheetIn w) a b ≡ cond (tells w′ a b) FitReply.Fits FitReply.FitsNot
     unfolding answer
     there =
@@ -71,8 +71,8 @@ module _ (a b : ℕ) (w : List ℕ) (rows : ℕ) (counted : rows ≡ length ((sh
         ∙ ap (λ (x : Bool). cond x FitReply.Fits FitReply.FitsNot)
         (sym (sheet-tells w w′ (subst (λ (n : ℕ). FitFilled n w w′) counted-here filled) a b (omega arith) (omega arith)))
 
-    pub fit-told : (t : Bool) → t ≡ tells w′ a b → (x : Bool) → t ≡ x → ToldAlone (fitIn (sheetIn w) a b) w w′ (cond x FitReply.Fits FitReply.FitsNot)
-    fit-told t e x c =
+    pub fit-told : {t : Bool} → t ≡ tells w′ a b → {x : Bool} → t ≡ x → ToldAlone (fitIn (sheetIn w) a b) w w′ (cond x FitReply.Fits FitReply.FitsNot)
+    fit-told e {x} c =
         record {
           same = sym (there ∙ ap (λ (y : Bool). cond y FitReply.Fits FitReply.FitsNot) (sym e ∙ c));
           written = refl;
@@ -81,22 +81,22 @@ module _ (a b : ℕ) (w : List ℕ) (rows : ℕ) (counted : rows ≡ length ((sh
 
 -- after reading
 
-module _ (text : List ℕ) (a b : ℕ) (w w₁ : List ℕ) (v : Verdict) (size : workSize ≤ length w) (s : SheetRead text w w₁ v) where
+module _ {text w w₁ : List ℕ} {v : Verdict} (a b : ℕ) (size : workSize ≤ length w) (s : SheetRead text w w₁ v) where
   pub reply-sheet : v ≡ Verdict.Accepted → WellFormed (sheetIn w₁)
   reply-sheet e = read-wellFormed text w w₁ size (subst (SheetRead text w w₁) e s)
 
-  pub reply-read : v ≡ Verdict.Accepted → (w′ : List ℕ) (r : FitReply) → ToldAlone (fitIn (sheetIn w₁) a b) w₁ w′ r → ToldAlone (fitReply text a b) w w′ r
+  pub reply-read : v ≡ Verdict.Accepted → {w′ : List ℕ} {r : FitReply} → ToldAlone (fitIn (sheetIn w₁) a b) w₁ w′ r → ToldAlone (fitReply text a b) w w′ r
   unfolding fitReply
-  reply-read e w′ r k =
+  reply-read e k =
       record {
         same = k .same ∙ ap (λ (m : Meaning). fitOn m a b) (sym (read-means text w w₁ size (subst (SheetRead text w w₁) e s)));
         written = refl;
         only = only-trans (only-widen (omega arith) (omega arith) (s .only)) (k .only);
       }
 
-  pub reply-refused : (q : Reason) (l : ℕ) → v ≡ Verdict.Refused q l → ToldAlone (fitReply text a b) w w₁ (FitReply.Refused q l)
+  pub reply-refused : {q : Reason} {l : ℕ} → v ≡ Verdict.Refused q l → ToldAlone (fitReply text a b) w w₁ (FitReply.Refused q l)
   unfolding fitReply
-  reply-refused q l e =
+  reply-refused e =
       record {
         same =
             ap (λ (m : Meaning). fitOn m a b)

@@ -51,7 +51,7 @@ fn reply(text: &[u8], a: usize, b: usize, work: &mut [u16]) -> FitReply
 pub fn ask_fit(text: &[u8], a: usize, b: usize, work: &mut [u16]) -> FitReply
     ensures { λ r. ⌜ FitAsked (now (text .entry)) a b (now (work .entry)) (now (work .exit)) r ⌝ }
 {
-    if work.len() < 32768 {
+    if !question::enough(work.len(), 0, 0) {
         return FitReply::Refused {
             reason: Reason::BufferTooShort,
             line: 0,

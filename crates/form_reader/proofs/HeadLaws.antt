@@ -21,14 +21,13 @@ use Rattle.table.proofs.PoolLaws.{from-refl, from→only}
 use Rattle.line_reader.specs.declared.Cursor.{Cursor}
 use Rattle.line_reader.specs.declared.LineTaken.{LineTaken}
 use Rattle.line_reader.specs.declared.Progress.{Progress}
-use Rattle.line_reader.specs.declared.Wanted.{Wanted}
 use Rattle.line_reader.specs.Told.{readFrom, heading, lineRead, LineTold, stoppedBy, Advanced}
 use Rattle.reader_loop.proofs.ThenLaws.{line-then, line-stop, line-gives, past, advanced-sooner}
 use Rattle.part_reader.proofs.PartLaws.{not-moved}
 use Rattle.form_reader.specs.Reads.{FormRead, formRest, formReader}
 
 -- by what the heading's reader gave
-module _ {text : List ℕ} (f : ℕ) {rows : ℕ} (forms : ℕ) {from : Cursor} (w : List ℕ) {p : LineTaken} (told : LineTold Wanted.Form rows text from p) where
+module _ {text : List ℕ} (f : ℕ) {rows : ℕ} (forms : ℕ) {from : Cursor} (w : List ℕ) {p : LineTaken} (told : LineTold Place.Form rows text from p) where
   told-here : lineRead text heading p ≡ readFrom text from (one (formLine (length (rowsIn w rows))))
   told-here = told .told ∙ ap (λ (k : ℕ). readFrom text from (one (formLine k))) (sym (length-tab (rowIn w) rows))
 

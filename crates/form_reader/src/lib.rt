@@ -6,31 +6,45 @@ ghost use Rattle.line_reader.specs.Told.{Room};
 ghost use Rattle.table.specs.Ready.{Ready};
 ghost use Rattle.table.specs.View.{rowIn, rowsIn};
 ghost use Rattle.form_reader.specs.Reads.{PartsReady, partItem, PartsRead, formRest, formReader, FormRead, FormsRead};
+use lexer::Numbers;
 use line_reader::Cursor;
 use line_reader::LineTaken;
 use line_reader::Progress;
-use line_reader::Wanted;
+use part_reader::PartAt;
+use sheet_rules::Place;
 use table::rows::wide;
 
-// The parts of form f, one for each of the `count` members of its row; the form keeps `keeps` values.
+// Which form is read: form f, in a sheet of `rows` rows and `forms` forms.
+pub struct FormAt {
+    pub f: usize,
+    pub rows: u16,
+    pub forms: u16,
+}
+
+// The parts of a form, one for each of the `count` members of its row; the form keeps `keeps` values.
 fn read_parts(
     text: &[u8],
     work: &mut [u16],
-    f: usize,
+    form: FormAt,
     row: usize,
     count: usize,
-    forms: u16,
     keeps: u16,
     from: Cursor,
 ) -> Progress
-    requires { ⌜ Room (now text) from × PartsReady (now work) f row count keeps ⌝ }
-    ensures { λ r. ⌜ PartsRead (now (text .entry)) f count (partItem ((rowIn (now (work .entry)) row) .members) forms keeps (from .used)) from (now (work .entry)) (now (work .exit)) r ⌝ }
+    requires { ⌜ Room (now text) from × PartsReady (now work) (form .f) row count keeps ⌝ }
+    ensures { λ r. ⌜ PartsRead (now (text .entry)) (form .f) count (partItem ((rowIn (now (work .entry)) row) .members) (form .forms) keeps (from .used)) from (now (work .entry)) (now (work .exit)) r ⌝ }
 {
     let mut j = 0;
     let mut here = from;
     while j < count {
         let m = table::rows::member(work, row, j);
-        let r = part_reader::read_part(text, work, f, j, m, forms, keeps, here);
+        let part = PartAt {
+            f: form.f,
+            j,
+            keeps,
+            forms: form.forms,
+        };
+        let r = part_reader::read_part(text, work, part, m, here);
         let Progress::Moved { to } = r else {
             return r;
         };
@@ -40,51 +54,30 @@ fn read_parts(
     Progress::Moved { to: here }
 }
 
-// Stores the heading of form f, and reads its kept rows and its parts, in a sheet of `rows` rows and `forms` forms.
-fn keep_form(
-    text: &[u8],
-    work: &mut [u16],
-    f: usize,
-    row: u16,
-    keeps: u16,
-    rows: u16,
-    forms: u16,
-    from: Cursor,
-) -> Progress
-    requires { ⌜ Room (now text) from × (f < 64) × (row < rows) × (keeps ≤ 8) × Ready rows (now work) ⌝ }
-    ensures { λ r. ⌜ FormRead (now (text .entry)) f (formRest (rowsIn (now (work .entry)) rows) forms (from .used) (record { row = row; count = keeps })) from (now (work .entry)) (now (work .exit)) r ⌝ }
+// Stores the heading of a form, and reads its kept rows and its parts.
+fn keep_form(text: &[u8], work: &mut [u16], form: FormAt, ns: Numbers, from: Cursor) -> Progress
+    requires { ⌜ Room (now text) from × (form .f < 64) × (ns .n0 < form .rows) × (ns .n1 ≤ 8) × Ready (form .rows) (now work) ⌝ }
+    ensures { λ r. ⌜ FormRead (now (text .entry)) (form .f) (formRest (rowsIn (now (work .entry)) (form .rows)) (form .forms) (from .used) (record { row = ns .n0; count = ns .n1 })) from (now (work .entry)) (now (work .exit)) r ⌝ }
 {
-    let parts = table::rows::member_count(work, wide(row));
-    table::stores::put_heading(work, f, row, keeps, parts as u16);
-    let kept = keep_reader::read_keeps(text, work, f, wide(keeps), rows, from);
+    let parts = table::rows::member_count(work, wide(ns.n0));
+    table::stores::put_heading(work, form.f, ns.n0, ns.n1, parts as u16);
+    let kept = keep_reader::read_keeps(text, work, form.f, wide(ns.n1), form.rows, from);
     let Progress::Moved { to } = kept else {
         return kept;
     };
-    read_parts(text, work, f, wide(row), parts, forms, keeps, to)
+    read_parts(text, work, form, wide(ns.n0), parts, ns.n1, to)
 }
 
-// Form f, in a sheet of `rows` rows and `forms` forms.
-fn read_form(
-    text: &[u8],
-    work: &mut [u16],
-    f: usize,
-    rows: u16,
-    forms: u16,
-    from: Cursor,
-) -> Progress
-    requires { ⌜ Room (now text) from × (f < 64) × Ready rows (now work) ⌝ }
-    ensures { λ r. ⌜ FormRead (now (text .entry)) f (formReader (rowsIn (now (work .entry)) rows) forms (from .used)) from (now (work .entry)) (now (work .exit)) r ⌝ }
+// A form.
+fn read_form(text: &[u8], work: &mut [u16], form: FormAt, from: Cursor) -> Progress
+    requires { ⌜ Room (now text) from × (form .f < 64) × Ready (form .rows) (now work) ⌝ }
+    ensures { λ r. ⌜ FormRead (now (text .entry)) (form .f) (formReader (rowsIn (now (work .entry)) (form .rows)) (form .forms) (from .used)) from (now (work .entry)) (now (work .exit)) r ⌝ }
 {
-    let read = line_reader::take_line(text, from, Wanted::Form, rows as u32);
-    let LineTaken::Line {
-        place: _,
-        numbers,
-        next,
-    } = read
-    else {
+    let read = line_reader::take_line(text, from, Place::Form, form.rows as u32);
+    let LineTaken::Line { place: _, ns, next } = read else {
         return line_reader::stopped(read);
     };
-    keep_form(text, work, f, numbers.n0, numbers.n1, rows, forms, next)
+    keep_form(text, work, form, ns, next)
 }
 
 // The forms of a sheet of `rows` rows, as many as its `forms` line says.
@@ -96,7 +89,7 @@ pub fn read_forms(text: &[u8], work: &mut [u16], rows: u16, forms: u16, from: Cu
     let mut f = 0;
     let mut here = from;
     while f < count {
-        let r = read_form(text, work, f, rows, forms, here);
+        let r = read_form(text, work, FormAt { f, rows, forms }, here);
         let Progress::Moved { to } = r else {
             return r;
         };

@@ -54,16 +54,11 @@ fn read_instr(text: &[u8], work: &mut [u16], forms: u16, filled: u16, from: Curs
     ensures { λ r. ⌜ InstrRead (now (text .entry)) forms filled from (now (work .entry)) (now (work .exit)) r ⌝ }
 {
     let read = line_reader::take_instr(text, from, forms, filled);
-    let LineTaken::Line {
-        place,
-        numbers,
-        next,
-    } = read
-    else {
+    let LineTaken::Line { place, ns, next } = read else {
         return line_reader::stopped(read);
     };
     let operation = instr_judge::operation_of(place);
-    store_instr(work, wide(from.used), operation, numbers);
+    store_instr(work, wide(from.used), operation, ns);
     Progress::Moved {
         to: Cursor {
             at: next.at,

@@ -14,7 +14,11 @@ use Rattle.lists.proofs.Tests.{clash}
 use Rattle.sheet_rules.specs.declared.Member.{Member}
 use Rattle.sheet_rules.specs.declared.Member.the-variants.{Method, Field}
 use Rattle.sheet_rules.specs.Sheet.{noMember}
-use Rattle.type_rules.specs.Typing.{Signature, methodIn, fieldIn}
+use Rattle.type_rules.specs.Typing.{Signature, methodIn, fieldIn, membersAt}
+use Rattle.table.specs.Layout.{workSize}
+use Rattle.table.specs.View.{memberIn, sheetIn}
+use Rattle.table.specs.Whole.{Whole}
+use Rattle.table.proofs.SheetLaws.{member-row-small, member-small, member-there}
 
 -- a look-up: by the first member that answers
 pub record Finds {A : Type 0} (find : List Member → Option A) : Type 0 where
@@ -22,18 +26,35 @@ pub record Finds {A : Type 0} (find : List Member → Option A) : Type 0 where
   pub miss : (m : Member) (ms : List Member) → find (m ∷ []) ≡ none → find (m ∷ ms) ≡ find ms
   pub hit : (m : Member) (ms : List Member) (q : A) → find (m ∷ []) ≡ some q → find (m ∷ ms) ≡ some q
 
-module _ {A : Type 0} (find : List Member → Option A) (f : Finds find) (ms : List Member) (j : ℕ) (same : find (drop j ms) ≡ find ms) where
-  first : j < length ms → (m : Member) → m ≡ getD ms j noMember → find (m ∷ drop (suc j) ms) ≡ find ms
-  first l m e = ap (λ (x : Member). find (x ∷ drop (suc j) ms)) e ∙ sym (ap find (drop-cons ms j noMember l)) ∙ same
+module _ {A : Type 0} {find : List Member → Option A} (f : Finds find) (ms : List Member) (j : ℕ) (same : find (drop j ms) ≡ find ms) where
+  first : j < length ms → {m : Member} → m ≡ getD ms j noMember → find (m ∷ drop (suc j) ms) ≡ find ms
+  first l e = ap (λ (x : Member). find (x ∷ drop (suc j) ms)) e ∙ sym (ap find (drop-cons ms j noMember l)) ∙ same
 
-  pub find-next : j < length ms → (m : Member) → m ≡ getD ms j noMember → find (m ∷ []) ≡ none → find (drop (j + 1) ms) ≡ find ms
-  find-next l m e n = ap (λ (k : ℕ). find (drop k ms)) (add-one j) ∙ sym (f .miss m (drop (suc j) ms) n) ∙ first l m e
+  pub find-next : j < length ms → {m : Member} → m ≡ getD ms j noMember → find (m ∷ []) ≡ none → find (drop (j + 1) ms) ≡ find ms
+  find-next l {m} e n = ap (λ (k : ℕ). find (drop k ms)) (add-one j) ∙ sym (f .miss m (drop (suc j) ms) n) ∙ first l e
 
-  pub find-hit : j < length ms → (m : Member) → m ≡ getD ms j noMember → (q : A) → find (m ∷ []) ≡ some q → some q ≡ find ms
-  find-hit l m e q n = sym (f .hit m (drop (suc j) ms) q n) ∙ first l m e
+  pub find-hit : j < length ms → {m : Member} → m ≡ getD ms j noMember → {q : A} → find (m ∷ []) ≡ some q → some q ≡ find ms
+  find-hit l {m} e {q} n = sym (f .hit m (drop (suc j) ms) q n) ∙ first l e
 
   pub find-end : length ms ≤ j → none ≡ find ms
   find-end l = sym (f .empty) ∙ sym (ap find (drop-of-length-le ms l)) ∙ same
+
+-- the same in the buffer: row is row a, of which n is the number of members, and x is what the member in hand answers
+module _ {A : Type 0} {find : List Member → Option A} (f : Finds find) {w : List ℕ} (h : Whole w) {a row n : ℕ} (e : row ≡ a) (c : n ≡ length (membersAt (sheetIn w) row)) (j : ℕ) where
+  pub member-asks : j < n → (row < 64) × (j < 8) × (workSize ≤ length w)
+  member-asks l = let k : j < length (membersAt (sheetIn w) row) = omega arith in (member-row-small w h row j k, member-small w h row j k, h .size)
+
+  module _ (same : find (drop j (membersAt (sheetIn w) row)) ≡ find (membersAt (sheetIn w) row)) where
+    pub found-next : j < n → {m : Member} → m ≡ memberIn w row j → {x : Option A} → x ≡ none → x ≡ find (m ∷ []) → find (drop (j + 1) (membersAt (sheetIn w) row)) ≡ find (membersAt (sheetIn w) row)
+    found-next l m y z = let k : j < length (membersAt (sheetIn w) row) = omega arith in find-next f (membersAt (sheetIn w) row) j same k (m ∙ sym (member-there w h row j k)) (sym z ∙ y)
+
+    pub found-hit : j < n → {m : Member} → m ≡ memberIn w row j → {x : Option A} {q : A} → x ≡ some q → x ≡ find (m ∷ []) → x ≡ find (membersAt (sheetIn w) a)
+    found-hit l m y z =
+        let k : j < length (membersAt (sheetIn w) row) = omega arith in
+        y ∙ find-hit f (membersAt (sheetIn w) row) j same k (m ∙ sym (member-there w h row j k)) (sym z ∙ y) ∙ ap (λ (b : ℕ). find (membersAt (sheetIn w) b)) e
+
+    pub found-end : n ≤ j → none ≡ find (membersAt (sheetIn w) a)
+    found-end l = find-end f (membersAt (sheetIn w) row) j same (omega arith) ∙ ap (λ (b : ℕ). find (membersAt (sheetIn w) b)) e
 
 -- methods
 

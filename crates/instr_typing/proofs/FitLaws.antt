@@ -3,10 +3,11 @@ use Prim.Native.Nat.{ℕ, suc, _+_, _≤_, _<_}
 use native.Mathlib.Omega.{arith}
 use native.Mathlib.Numerals.{add-one}
 use mathlib.Core.Path.{_≡_, refl, sym, ap, ap₂, _∙_}
-use mathlib.Core.Bool.{Bool, true, false, _&&_}
+use mathlib.Core.Bool.{Bool, true, false, not, _&&_}
 use mathlib.Core.List.{List, [], _∷_}
 use lib.ListN.{length, getD, drop, drop-of-length-le}
 use lib.Seq.{drop-cons}
+use borrow.Author.Tests.{not-true, not-false}
 use Rattle.type_rules.specs.Typing.{allFit}
 
 module _ (fit : ℕ → ℕ → Bool) (rows : List ℕ) where
@@ -40,3 +41,14 @@ module _ (fit : ℕ → ℕ → Bool) (rows : List ℕ) where
     pub all-end : length vs ≤ k → true ≡ allFit fit rows vs bs
     unfolding allFit
     all-end l = let l′ : length bs ≤ k = omega arith in sym (ap₂ (allFit fit rows) (drop-of-length-le vs l) (drop-of-length-le bs l′)) ∙ same
+
+    -- slot v, the k-th, has row a, and is kept as a value of row b; t is what the test of it answered
+    module _ {v a b : ℕ} {t : Bool} (l : k < length vs) (ev : v ≡ getD vs k 0) (ea : a ≡ getD rows v 0) (eb : b ≡ getD bs k 0) (et : t ≡ fit a b) where
+      answered : t ≡ fit (getD rows (getD vs k 0) 0) (getD bs k 0)
+      answered = et ∙ ap₂ fit (ea ∙ ap (λ (x : ℕ). getD rows x 0) ev) eb
+
+      pub slot-next : not t ≡ false → allFit fit rows (drop (k + 1) vs) (drop (k + 1) bs) ≡ allFit fit rows vs bs
+      slot-next n = all-next l (sym answered ∙ not-false t n)
+
+      pub slot-stop : not t ≡ true → false ≡ allFit fit rows vs bs
+      slot-stop n = all-stop l (sym answered ∙ not-true t n)

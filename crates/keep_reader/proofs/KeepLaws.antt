@@ -12,14 +12,13 @@ use Rattle.table.proofs.ViewLaws.{only-refl, only-set}
 use Rattle.lexer.specs.declared.Numbers.{Numbers}
 use Rattle.line_reader.specs.declared.Cursor.{Cursor}
 use Rattle.line_reader.specs.declared.LineTaken.{LineTaken}
-use Rattle.line_reader.specs.declared.Wanted.{Wanted}
 use Rattle.line_reader.specs.declared.Progress.{Progress}
 use Rattle.line_reader.specs.Told.{gotAt, number, lineRead, LineTold, stoppedBy, Advanced}
 use Rattle.reader_loop.proofs.ThenLaws.{past-moved}
 use Rattle.keep_reader.specs.Reads.{KeepRead}
 
 -- by what the line's reader gave
-module _ {text : List ℕ} (f j : ℕ) {rows : ℕ} {from : Cursor} (w : List ℕ) {p : LineTaken} (told : LineTold Wanted.Keep rows text from p) where
+module _ {text : List ℕ} (f j : ℕ) {rows : ℕ} {from : Cursor} (w : List ℕ) {p : LineTaken} (told : LineTold Place.Keep rows text from p) where
   pub keep-read : workSize ≤ length w → {k : Place} {ns : Numbers} {to : Cursor} → p ≡ LineTaken.Line k ns to
       → {w′ : List ℕ} → w′ ≡ set w (keepAddress f j) (ns .n0) → KeepRead text f j rows from w w′ (Progress.Moved to)
   keep-read size {k} {ns} {to} e stored =

@@ -7,23 +7,18 @@ ghost use Rattle.table.specs.Layout.{workSize};
 use line_reader::Cursor;
 use line_reader::LineTaken;
 use line_reader::Progress;
-use line_reader::Wanted;
+use sheet_rules::Place;
 
 // Kept row j of form f, in a sheet of `rows` rows.
 fn read_keep(text: &[u8], work: &mut [u16], f: usize, j: usize, rows: u16, from: Cursor) -> Progress
     requires { ⌜ Room (now text) from × (f < 64) × (j < 8) × (workSize ≤ length (now work)) ⌝ }
     ensures { λ r. ⌜ KeepRead (now (text .entry)) f j rows from (now (work .entry)) (now (work .exit)) r ⌝ }
 {
-    let read = line_reader::take_line(text, from, Wanted::Keep, rows as u32);
-    let LineTaken::Line {
-        place: _,
-        numbers,
-        next,
-    } = read
-    else {
+    let read = line_reader::take_line(text, from, Place::Keep, rows as u32);
+    let LineTaken::Line { place: _, ns, next } = read else {
         return line_reader::stopped(read);
     };
-    table::stores::put_keep(work, f, j, numbers.n0);
+    table::stores::put_keep(work, f, j, ns.n0);
     Progress::Moved { to: next }
 }
 

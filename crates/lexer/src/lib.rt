@@ -230,7 +230,7 @@ fn read_key(text: &[u8], from: usize) -> KeyRead
         if 531441 <= code {
             return KeyRead::Torn;
         }
-        code = code * 27 + (byte - 96) as u32;
+        code = code * 27 + ((byte as u32) - 96);
     }
     KeyRead::Torn
 }

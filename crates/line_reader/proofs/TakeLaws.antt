@@ -27,7 +27,6 @@ use Rattle.line_judges.specs.declared.LineJudged.{LineJudged}
 use Rattle.line_judges.specs.Told.{lineTold, rowTold, memberRest}
 use Rattle.line_judges.proofs.StrictLaws.{Strict, strict-count, strict-existing, strict-body, strict-row, strict-form, strict-member, strict-instr, one-torn, one-line, Taken, line-taken}
 use Rattle.line_reader.specs.declared.Cursor.{Cursor}
-use Rattle.line_reader.specs.declared.Wanted.{Wanted}
 use Rattle.line_reader.specs.declared.LineTaken.{LineTaken}
 use Rattle.line_reader.specs.Told.{Room, readFrom, number, heading, instruction, Judges, settled, lineRead, lineAsked, Stands, Tells, Onward, LineTold, InstrTold}
 
@@ -39,6 +38,10 @@ same-numbers e = cc
 
 same-key : {k k′ : Place} {ns ns′ : Numbers} {c c′ : Cursor} → LineTaken.Line k ns c ≡ LineTaken.Line k′ ns′ c′ → k ≡ k′
 same-key e = cc
+
+-- a judgement where a place is wanted, by which place it is
+pub judges-at : {wanted w : Place} → wanted ≡ w → (b : ℕ) (k : Place) (ns : Numbers) (j : LineJudged) → Judges w b k ns j → Judges wanted b k ns j
+judges-at e b k ns j t = subst (λ (x : Place). Judges x b k ns j) (sym e) t
 
 -- a line that was judged good has an instruction's place
 good-place : (forms filled : ℕ) (k : Place) (ns : List ℕ) (i : Instr) → instrLine forms filled k ns ≡ good i → samePlace k (Place.Instruction Operation.New) ≡ true
@@ -57,19 +60,21 @@ module _ (text : List ℕ) (c : Cursor) where
     torn : {A : Type 0} (judge : Place → List ℕ → Judged A) → Strict judge → refused Malformed (c .line) ≡ readFrom text c (one judge)
     torn judge st = sym (one-torn text (c .at) judge st (c .line) e)
 
-    tells-torn : (wanted : Wanted) (b : ℕ) → Tells wanted b text c (LineTaken.Refused Malformed (c .line))
-    tells-torn Wanted.Types b = torn (countLine Place.Types 1 rowLimit) (strict-count Place.Types 1 rowLimit)
-    tells-torn Wanted.Row b = ((λ earlier. torn (rowLine earlier) (strict-row earlier)), λ k ns c′ x. no-line x)
-    tells-torn Wanted.Member b =
+    tells-torn : (wanted : Place) (b : ℕ) → Tells wanted b text c (LineTaken.Refused Malformed (c .line))
+    tells-torn Place.Types b = torn (countLine Place.Types 1 rowLimit) (strict-count Place.Types 1 rowLimit)
+    tells-torn Place.Row b = ((λ earlier. torn (rowLine earlier) (strict-row earlier)), λ k ns c′ x. no-line x)
+    tells-torn (Place.Member m) b =
         ((λ limit earlier h before low. torn (memberLine limit earlier h before) (strict-member limit earlier h before)), λ k ns c′ x. no-line x)
-    tells-torn Wanted.Forms b = torn (countLine Place.Forms 0 formLimit) (strict-count Place.Forms 0 formLimit)
-    tells-torn Wanted.Form b = torn (formLine b) (strict-form b)
-    tells-torn Wanted.Keep b = torn (existingLine Place.Keep b) (strict-existing Place.Keep b)
-    tells-torn Wanted.Init b = torn (existingLine Place.Init b) (strict-existing Place.Init b)
-    tells-torn Wanted.Body b = torn (bodyLine Place.Body b) (strict-body Place.Body b)
-    tells-torn Wanted.Main b = torn (bodyLine Place.Main b) (strict-body Place.Main b)
+    tells-torn Place.Forms b = torn (countLine Place.Forms 0 formLimit) (strict-count Place.Forms 0 formLimit)
+    tells-torn Place.Form b = torn (formLine b) (strict-form b)
+    tells-torn Place.Keep b = torn (existingLine Place.Keep b) (strict-existing Place.Keep b)
+    tells-torn Place.Init b = torn (existingLine Place.Init b) (strict-existing Place.Init b)
+    tells-torn Place.Body b = torn (bodyLine Place.Body b) (strict-body Place.Body b)
+    tells-torn Place.Main b = torn (bodyLine Place.Main b) (strict-body Place.Main b)
+    tells-torn (Place.Instruction o) b = refl
+    tells-torn Place.Nowhere b = refl
 
-    pub told-torn : (wanted : Wanted) (b : ℕ) → LineTold wanted b text c (LineTaken.Refused Malformed (c .line))
+    pub told-torn : (wanted : Place) (b : ℕ) → LineTold wanted b text c (LineTaken.Refused Malformed (c .line))
     told-torn wanted b = record { told = tells-torn wanted b; onward = Onward.stopped }
 
     pub instr-torn : (forms filled : ℕ) → InstrTold forms filled text c (LineTaken.Refused Malformed (c .line))
@@ -109,19 +114,21 @@ module _ (text : List ℕ) (c : Cursor) where
     here w LineJudged.Good h k′ ns′ c′ x = subst (λ (y : Place). samePlace y w ≡ true) (same-key x) (h refl)
     here w (LineJudged.Refused q) h k′ ns′ c′ x = no-line x
 
-    tells-line : (wanted : Wanted) (b : ℕ) (j : LineJudged) → Judges wanted b k ns j → Tells wanted b text c (settled j k ns c next)
-    tells-line Wanted.Types b j t = judged (countLine Place.Types 1 rowLimit) number j t
-    tells-line Wanted.Row b j t = ((λ earlier. asked (rowLine earlier) (λ k ns. rowTold earlier (ns .n0) (ns .n1)) j (t .0 earlier)), few j (t .1))
-    tells-line Wanted.Member b j t = (
+    tells-line : (wanted : Place) (b : ℕ) (j : LineJudged) → Judges wanted b k ns j → Tells wanted b text c (settled j k ns c next)
+    tells-line Place.Types b j t = judged (countLine Place.Types 1 rowLimit) number j t
+    tells-line Place.Row b j t = ((λ earlier. asked (rowLine earlier) (λ k ns. rowTold earlier (ns .n0) (ns .n1)) j (t .0 earlier)), few j (t .1))
+    tells-line (Place.Member m) b j t = (
       (λ limit earlier h before low. asked (memberLine limit earlier h before) (λ k ns. memberRest limit earlier h before k (listOf ns)) j (t .0 limit earlier h before low)),
       here (Place.Member MemberKind.Method) j (t .1),
     )
-    tells-line Wanted.Forms b j t = judged (countLine Place.Forms 0 formLimit) number j t
-    tells-line Wanted.Form b j t = judged (formLine b) heading j t
-    tells-line Wanted.Keep b j t = judged (existingLine Place.Keep b) number j t
-    tells-line Wanted.Init b j t = judged (existingLine Place.Init b) number j t
-    tells-line Wanted.Body b j t = judged (bodyLine Place.Body b) number j t
-    tells-line Wanted.Main b j t = judged (bodyLine Place.Main b) number j t
+    tells-line Place.Forms b j t = judged (countLine Place.Forms 0 formLimit) number j t
+    tells-line Place.Form b j t = judged (formLine b) heading j t
+    tells-line Place.Keep b j t = judged (existingLine Place.Keep b) number j t
+    tells-line Place.Init b j t = judged (existingLine Place.Init b) number j t
+    tells-line Place.Body b j t = judged (bodyLine Place.Body b) number j t
+    tells-line Place.Main b j t = judged (bodyLine Place.Main b) number j t
+    tells-line (Place.Instruction o) b j t = ap (λ (x : LineJudged). settled x k ns c next) t
+    tells-line Place.Nowhere b j t = ap (λ (x : LineJudged). settled x k ns c next) t
 
     onward : Room text c → (j : LineJudged) → Onward text c (settled j k ns c next)
     onward room LineJudged.Good =
@@ -130,7 +137,7 @@ module _ (text : List ℕ) (c : Cursor) where
         Onward.moved (taken .later) (record { small = room .small; inside = taken .inside; lines = l; pool = room .pool }) (taken .fitting)
     onward room (LineJudged.Refused q) = Onward.stopped
 
-    pub told-line : Room text c → (wanted : Wanted) (b : ℕ) (j : LineJudged) → Judges wanted b k ns j → {p : LineTaken} → p ≡ settled j k ns c next
+    pub told-line : Room text c → (wanted : Place) (b : ℕ) (j : LineJudged) → Judges wanted b k ns j → {p : LineTaken} → p ≡ settled j k ns c next
         → LineTold wanted b text c p
     told-line room wanted b j t x = subst (LineTold wanted b text c) (sym x) (record { told = tells-line wanted b j t; onward = onward room j })
 

@@ -21,7 +21,6 @@ use Rattle.lexer.specs.Scan.{listOf, Fitting}
 use Rattle.line_judges.specs.declared.LineJudged.{LineJudged}
 use Rattle.line_judges.specs.Told.{lineTold, rowTold, Lowest, memberRest}
 use Rattle.line_reader.specs.declared.Cursor.{Cursor}
-use Rattle.line_reader.specs.declared.Wanted.{Wanted}
 use Rattle.line_reader.specs.declared.LineTaken.{LineTaken}
 use Rattle.line_reader.specs.declared.Progress.{Progress}
 
@@ -59,21 +58,24 @@ heading k ns = record { row = ns .n0; count = ns .n1 }
 abbrev pub instruction : Place → Numbers → Instr
 instruction k ns = instrOf (operationOf k) (listOf ns)
 
--- a judgement of a line where one is wanted, by a bound, tells what the rules judge there
-abbrev pub Judges : Wanted → ℕ → Place → Numbers → LineJudged → Type 0
-Judges Wanted.Types b k ns j = lineTold j (good (number k ns)) ≡ countLine Place.Types 1 rowLimit k (listOf ns)
-Judges Wanted.Row b k ns j =
+-- a judgement of a line where one is wanted, by a bound, tells what the rules judge there; no line is judged so where an instruction is
+-- wanted, or none
+abbrev pub Judges : Place → ℕ → Place → Numbers → LineJudged → Type 0
+Judges Place.Types b k ns j = lineTold j (good (number k ns)) ≡ countLine Place.Types 1 rowLimit k (listOf ns)
+Judges Place.Row b k ns j =
     ((earlier : List Row) → lineTold j (rowTold earlier (ns .n0) (ns .n1)) ≡ rowLine earlier k (listOf ns)) × (j ≡ LineJudged.Good → ns .n1 ≤ 8)
-Judges Wanted.Member b k ns j =
+Judges (Place.Member m) b k ns j =
     ((limit : ℕ) (earlier : List Row) (h : Heading) (before : List Member) → Lowest before b
     → lineTold j (memberRest limit earlier h before k (listOf ns)) ≡ memberLine limit earlier h before k (listOf ns))
     × (j ≡ LineJudged.Good → samePlace k (Place.Member MemberKind.Method) ≡ true)
-Judges Wanted.Forms b k ns j = lineTold j (good (number k ns)) ≡ countLine Place.Forms 0 formLimit k (listOf ns)
-Judges Wanted.Form b k ns j = lineTold j (good (heading k ns)) ≡ formLine b k (listOf ns)
-Judges Wanted.Keep b k ns j = lineTold j (good (number k ns)) ≡ existingLine Place.Keep b k (listOf ns)
-Judges Wanted.Init b k ns j = lineTold j (good (number k ns)) ≡ existingLine Place.Init b k (listOf ns)
-Judges Wanted.Body b k ns j = lineTold j (good (number k ns)) ≡ bodyLine Place.Body b k (listOf ns)
-Judges Wanted.Main b k ns j = lineTold j (good (number k ns)) ≡ bodyLine Place.Main b k (listOf ns)
+Judges Place.Forms b k ns j = lineTold j (good (number k ns)) ≡ countLine Place.Forms 0 formLimit k (listOf ns)
+Judges Place.Form b k ns j = lineTold j (good (heading k ns)) ≡ formLine b k (listOf ns)
+Judges Place.Keep b k ns j = lineTold j (good (number k ns)) ≡ existingLine Place.Keep b k (listOf ns)
+Judges Place.Init b k ns j = lineTold j (good (number k ns)) ≡ existingLine Place.Init b k (listOf ns)
+Judges Place.Body b k ns j = lineTold j (good (number k ns)) ≡ bodyLine Place.Body b k (listOf ns)
+Judges Place.Main b k ns j = lineTold j (good (number k ns)) ≡ bodyLine Place.Main b k (listOf ns)
+Judges (Place.Instruction o) b k ns j = j ≡ LineJudged.Refused Reason.Malformed
+Judges Place.Nowhere b k ns j = j ≡ LineJudged.Refused Reason.Malformed
 
 -- a judged line that ends before a place of the text, with where reading then stands
 abbrev pub settled : LineJudged → Place → Numbers → Cursor → ℕ → LineTaken
@@ -97,21 +99,23 @@ abbrev pub Stands : Place → LineTaken → Type 0
 Stands w p = (k : Place) (ns : Numbers) (c : Cursor) → p ≡ LineTaken.Line k ns c → samePlace k w ≡ true
 
 -- what was read where a line is wanted is what the rules read there
-abbrev pub Tells : Wanted → ℕ → List ℕ → Cursor → LineTaken → Type 0
-Tells Wanted.Types b text c p = lineRead text number p ≡ readFrom text c (one (countLine Place.Types 1 rowLimit))
-Tells Wanted.Row b text c p =
+abbrev pub Tells : Place → ℕ → List ℕ → Cursor → LineTaken → Type 0
+Tells Place.Types b text c p = lineRead text number p ≡ readFrom text c (one (countLine Place.Types 1 rowLimit))
+Tells Place.Row b text c p =
     ((earlier : List Row) → lineAsked text (c .line) (λ k ns. rowTold earlier (ns .n0) (ns .n1)) p ≡ readFrom text c (one (rowLine earlier)))
     × ((k : Place) (ns : Numbers) (c′ : Cursor) → p ≡ LineTaken.Line k ns c′ → ns .n1 ≤ 8)
-Tells Wanted.Member b text c p =
+Tells (Place.Member m) b text c p =
     ((limit : ℕ) (earlier : List Row) (h : Heading) (before : List Member) → Lowest before b
     → lineAsked text (c .line) (λ k ns. memberRest limit earlier h before k (listOf ns)) p ≡ readFrom text c (one (memberLine limit earlier h before)))
     × Stands (Place.Member MemberKind.Method) p
-Tells Wanted.Forms b text c p = lineRead text number p ≡ readFrom text c (one (countLine Place.Forms 0 formLimit))
-Tells Wanted.Form b text c p = lineRead text heading p ≡ readFrom text c (one (formLine b))
-Tells Wanted.Keep b text c p = lineRead text number p ≡ readFrom text c (one (existingLine Place.Keep b))
-Tells Wanted.Init b text c p = lineRead text number p ≡ readFrom text c (one (existingLine Place.Init b))
-Tells Wanted.Body b text c p = lineRead text number p ≡ readFrom text c (one (bodyLine Place.Body b))
-Tells Wanted.Main b text c p = lineRead text number p ≡ readFrom text c (one (bodyLine Place.Main b))
+Tells Place.Forms b text c p = lineRead text number p ≡ readFrom text c (one (countLine Place.Forms 0 formLimit))
+Tells Place.Form b text c p = lineRead text heading p ≡ readFrom text c (one (formLine b))
+Tells Place.Keep b text c p = lineRead text number p ≡ readFrom text c (one (existingLine Place.Keep b))
+Tells Place.Init b text c p = lineRead text number p ≡ readFrom text c (one (existingLine Place.Init b))
+Tells Place.Body b text c p = lineRead text number p ≡ readFrom text c (one (bodyLine Place.Body b))
+Tells Place.Main b text c p = lineRead text number p ≡ readFrom text c (one (bodyLine Place.Main b))
+Tells (Place.Instruction o) b text c p = p ≡ LineTaken.Refused Reason.Malformed (c .line)
+Tells Place.Nowhere b text c p = p ≡ LineTaken.Refused Reason.Malformed (c .line)
 
 -- reading goes on further down the text, a line later, with as many instructions; and the line has as many numbers as its key takes
 pub data Onward (text : List ℕ) (c : Cursor) : LineTaken → Type 0 where
@@ -119,7 +123,7 @@ pub data Onward (text : List ℕ) (c : Cursor) : LineTaken → Type 0 where
   stopped : {r : Reason} {l : ℕ} → Onward text c (LineTaken.Refused r l)
 
 -- the line where reading stands, where one is wanted, was read
-pub record LineTold (wanted : Wanted) (b : ℕ) (text : List ℕ) (c : Cursor) (p : LineTaken) : Type 0 where
+pub record LineTold (wanted : Place) (b : ℕ) (text : List ℕ) (c : Cursor) (p : LineTaken) : Type 0 where
   pub told : Tells wanted b text c p
   pub onward : Onward text c p
 

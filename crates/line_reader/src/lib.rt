@@ -16,24 +16,11 @@ pub struct Cursor {
     pub used: u16,
 }
 
-// The line that a reader waits for, if no instruction.
-pub enum Wanted {
-    Types,
-    Row,
-    Member,
-    Forms,
-    Form,
-    Keep,
-    Init,
-    Body,
-    Main,
-}
-
-// A line of the wanted place, judged: its numbers and where reading then stands, or the refusal.
+// A line of the wanted place, judged: its key by its place, its numbers and where reading then stands, or the refusal.
 pub enum LineTaken {
     Line {
         place: Place,
-        numbers: Numbers,
+        ns: Numbers,
         next: Cursor,
     },
     Refused {
@@ -48,22 +35,29 @@ pub enum Progress {
     Refused { reason: Reason, line: u32 },
 }
 
-// Judges a line by what is wanted there and by a bound: the lowest name of a member, how many rows a kept row or a form may have,
-// how many values an `init` may name, how many instructions a body comes after. The other lines have none.
-fn judge(wanted: Wanted, bound: u32, place: Place, numbers: Numbers) -> LineJudged
+// Judges a line by the place that is wanted and by a bound: the lowest name of a member, how many rows a kept row or a form may have,
+// how many values an `init` may name, how many instructions a body comes after. The other lines have none, and no instruction is judged
+// here.
+fn judge(wanted: Place, bound: u32, place: Place, numbers: Numbers) -> LineJudged
     requires { ⌜ Fitting place numbers ⌝ }
     ensures { λ r. ⌜ Judges wanted bound place numbers r ⌝ }
 {
     match wanted {
-        Wanted::Types => line_judges::count_line(Place::Types, 1, 64, place, numbers),
-        Wanted::Row => line_judges::row_line(place, numbers),
-        Wanted::Member => line_judges::member_line(bound, place, numbers),
-        Wanted::Forms => line_judges::count_line(Place::Forms, 0, 64, place, numbers),
-        Wanted::Form => line_judges::form_line(bound, place, numbers),
-        Wanted::Keep => line_judges::existing_line(Place::Keep, bound, place, numbers),
-        Wanted::Init => line_judges::existing_line(Place::Init, bound, place, numbers),
-        Wanted::Body => line_judges::body_line(Place::Body, bound, place, numbers),
-        Wanted::Main => line_judges::body_line(Place::Main, bound, place, numbers),
+        Place::Types => line_judges::count_line(Place::Types, 1, 64, place, numbers),
+        Place::Row => line_judges::row_line(place, numbers),
+        Place::Member { .. } => line_judges::member_line(bound, place, numbers),
+        Place::Forms => line_judges::count_line(Place::Forms, 0, 64, place, numbers),
+        Place::Form => line_judges::form_line(bound, place, numbers),
+        Place::Keep => line_judges::existing_line(Place::Keep, bound, place, numbers),
+        Place::Init => line_judges::existing_line(Place::Init, bound, place, numbers),
+        Place::Body => line_judges::body_line(Place::Body, bound, place, numbers),
+        Place::Main => line_judges::body_line(Place::Main, bound, place, numbers),
+        Place::Instruction { .. } => LineJudged::Refused {
+            reason: Reason::Malformed,
+        },
+        Place::Nowhere => LineJudged::Refused {
+            reason: Reason::Malformed,
+        },
     }
 }
 
@@ -87,7 +81,7 @@ fn settle(judged: LineJudged, place: Place, numbers: Numbers, from: Cursor, at: 
     match judged {
         LineJudged::Good => LineTaken::Line {
             place,
-            numbers,
+            ns: numbers,
             next: next_line(from, at),
         },
         LineJudged::Refused { reason } => LineTaken::Refused {
@@ -97,8 +91,8 @@ fn settle(judged: LineJudged, place: Place, numbers: Numbers, from: Cursor, at: 
     }
 }
 
-// The line where reading stands, where one is wanted.
-pub fn take_line(text: &[u8], from: Cursor, wanted: Wanted, bound: u32) -> LineTaken
+// The line where reading stands, where one of some place is wanted.
+pub fn take_line(text: &[u8], from: Cursor, wanted: Place, bound: u32) -> LineTaken
     requires { ⌜ Room (now text) from ⌝ }
     ensures { λ r. ⌜ LineTold wanted bound (now (text .entry)) from r ⌝ }
 {
@@ -143,11 +137,7 @@ pub fn stopped(taken: LineTaken) -> Progress
     ensures { λ r. ⌜ r ≡ stoppedBy taken ⌝ }
 {
     match taken {
-        LineTaken::Line {
-            place: _,
-            numbers: _,
-            next,
-        } => Progress::Moved { to: next },
+        LineTaken::Line { next, .. } => Progress::Moved { to: next },
         LineTaken::Refused { reason, line } => Progress::Refused { reason, line },
     }
 }

@@ -11,8 +11,11 @@ use mir.Val.{Val, vptr, WT, hasTy}
 use base.Logic.{SProp, ent, sep, id⊢}
 use base.Fml.{GName, ftrue, fsep, fat, flft, flent}
 use prog.Wp.{Heap, Calls, Loops, WpFn, Tables}
+use prog.Model.{Model}
 use ghost.Atoms.{Atoms, sem}
 use contract.Monad.{fact}
+use contract.Running.{GhostRules, Running, givenOf, tables, tablesOf}
+use Rattle.machine_rules.proofs.Calling.{FromCallee, calling}
 use types.Kit.{Given, ‵, raw, _⊛_, some, later, _$_, _∵_, !, qed, by, move, keep, use1, use2, use3, split, join, pick, fsplit, fjoin, fpick, fpack, feqL, suffices, frame, await, done}
 use types.Tokens.{lft-new, lft-end}
 use types.Run.{look, init, forget, stop, from, load, addr, of-opd, and-then, no-more, land, assigns, returns, enter, alloc1, alloc0, params1, pass1, pass0, free1, free0}
@@ -134,3 +137,9 @@ module _ (Ok : Tally → Type 0) (next : Tally → Tally) where
     meets 𝓣 known =
         walk-meets 𝓤 H A ended stayed W (goes-none 𝓤 H A W 0 (λ _. T.the-row) yes (λ κs x f. refl), tt) (clauses 𝓤)
         (WpFn 𝓤 H (𝓣 .C) (𝓣 .Λ) (function f)) (WpFn-mono 𝓤 H (W .laws) 𝓣 (function f)) (walks (𝓣 .C) (𝓣 .Λ) (fmOf 𝓤 H (W .laws) 𝓣) known)
+
+  -- the function, from its callee's theorem
+  pub lends : {M : Type 1} (𝓤 : URA M) (H : Heap 𝓤) (𝓜 : Model 𝓤 H) (𝓖 : GhostRules 𝓤 H) (𝓡 : Running 𝓤 H 𝓜)
+      → FromCallee 𝓤 H 𝓜 𝓡 function (tripleOf 𝓤 H (𝓖 .A) signature (closing 𝓤 H (𝓖 .A) ended (clauses 𝓤))) (Thin 𝓤 H (𝓖 .A))
+  unfolding tablesOf
+  lends 𝓤 H 𝓜 𝓖 𝓡 = calling 𝓤 H 𝓜 𝓡 function _ _ (λ γ f. meets 𝓤 H (𝓖 .A) (givenOf 𝓤 H 𝓜 𝓖) f (tablesOf 𝓤 H 𝓜 (tables 𝓤 H 𝓜 𝓡 γ)))

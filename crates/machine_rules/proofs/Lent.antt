@@ -10,8 +10,11 @@ use mir.Val.{Val, vunit, vint, vptr, vstruct, vnil, vcons}
 use base.Logic.{SProp, ent, sep, exE, snd∗, id⊢}
 use base.Fml.{GName, Lft, Share, ftrue, flft, fobs, fbor}
 use prog.Wp.{Heap, Calls, Loops, WpFn, Tables}
+use prog.Model.{Model}
 use ghost.Atoms.{Atoms, sem}
 use contract.Monad.{fact}
+use contract.Running.{GhostRules, Running, givenOf, tables, tablesOf}
+use Rattle.machine_rules.proofs.Calling.{FromCallee, calling}
 use types.Kit.{Given, ‵, raw, _⊛_, some, later, _$_, _∵_, !, qed, by, move, keep, drop, use1, split, join, pick, fsplit, fsplit3, fjoin, fjoin3, feqI, suffices, frame, await, done}
 use types.Run.{look, init, store-raw, forget, stop, hop, fld, from, load, unit-lit, of-opd, and-then, no-more, land, assigns, returns, enter, alloc1, alloc0, params1, pass1, pass0, free1, free0}
 use types.Part.{whole, sub, look-in}
@@ -151,3 +154,9 @@ module _ (Ok : Tally → Type 0) (next : Tally → Tally) where
     meets 𝓣 known =
         walk-meets 𝓤 H A ended stayed W (goes-ref 𝓤 H A W 1 0 tt (plain (λ _. T.the-row)), tt) (clauses 𝓤)
         (WpFn 𝓤 H (𝓣 .C) (𝓣 .Λ) (function f)) (WpFn-mono 𝓤 H (W .laws) 𝓣 (function f)) (walks (𝓣 .C) (𝓣 .Λ) (fmOf 𝓤 H (W .laws) 𝓣) known)
+
+  -- the function, from its callee's theorem
+  pub stores : {M : Type 1} (𝓤 : URA M) (H : Heap 𝓤) (𝓜 : Model 𝓤 H) (𝓖 : GhostRules 𝓤 H) (𝓡 : Running 𝓤 H 𝓜)
+      → FromCallee 𝓤 H 𝓜 𝓡 function (tripleOf 𝓤 H (𝓖 .A) signature (closing 𝓤 H (𝓖 .A) ended (clauses 𝓤))) (Counts 𝓤 H (𝓖 .A))
+  unfolding tablesOf
+  stores 𝓤 H 𝓜 𝓖 𝓡 = calling 𝓤 H 𝓜 𝓡 function _ _ (λ γ f. meets 𝓤 H (𝓖 .A) (givenOf 𝓤 H 𝓜 𝓖) f (tablesOf 𝓤 H 𝓜 (tables 𝓤 H 𝓜 𝓡 γ)))

@@ -11,5 +11,6 @@ pub mod SoundLaws
 pub mod BoundsLaws
 pub mod ReadyLaws
 pub mod Counting
+pub mod Calling
 pub mod Lent
 pub mod Lending

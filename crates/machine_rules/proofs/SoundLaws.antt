@@ -4,6 +4,7 @@ use native.Mathlib.Omega.{arith}
 use mathlib.Core.Path.{_≡_, refl, subst}
 use mathlib.Core.List.{List, []}
 use mathlib.Core.Option.{Option, none, some}
+use Rattle.lists.specs.Tab.{tab}
 use Rattle.lists.specs.Pairwise.{Pairwise}
 use Rattle.lists.proofs.Tests.{clash}
 use Rattle.sheet_rules.specs.declared.Verdict.the-variants.{Accepted}
@@ -34,6 +35,7 @@ stateOf-step lacking σ e = clash (cc)
 module _ (s : Sheet) (w : WellFormed s) (t : Typed s) where
   -- the start is sound
   pub start-sound : Sound s (start s)
+  unfolding tab
   start-sound =
       record {
         store = λ o h. absurd (omega arith);

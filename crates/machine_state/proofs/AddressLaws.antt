@@ -1,20 +1,14 @@
--- The addresses of objects and frames without the clamps: where the code reads them. Assumes nothing.
-use Prim.Native.Nat.{ℕ, _+_, _*_, _<_}
+-- Where the values of an object and of a frame stand, from where its numbers begin. Assumes nothing.
+use Prim.Native.Nat.{ℕ, _+_, _<_}
 use native.Mathlib.Omega.{arith}
 use mathlib.Core.Path.{_≡_}
 use Rattle.table.specs.Layout.{objectAddress, frameAddress, slotAddress, keptAddress, fieldAddress}
 
-pub object-address : (o : ℕ) → o < 256 → 20048 + 17 * o ≡ objectAddress o
-object-address o h = omega arith
+pub kept-place : (o i : ℕ) {at : ℕ} → at ≡ objectAddress o → i < 8 → at + (1 + i) ≡ keptAddress o i
+kept-place o i e h = omega arith
 
-pub kept-address : (o i : ℕ) → o < 256 → i < 8 → 20048 + 17 * o + (1 + i) ≡ keptAddress o i
-kept-address o i h k = omega arith
+pub field-place : (o i : ℕ) {at : ℕ} → at ≡ objectAddress o → i < 8 → at + (9 + i) ≡ fieldAddress o i
+field-place o i e h = omega arith
 
-pub field-address : (o i : ℕ) → o < 256 → i < 8 → 20048 + 17 * o + (9 + i) ≡ fieldAddress o i
-field-address o i h k = omega arith
-
-pub frame-address : (f : ℕ) → f < 64 → 24400 + 48 * f ≡ frameAddress f
-frame-address f h = omega arith
-
-pub slot-address : (f v : ℕ) → f < 64 → v < 44 → 24400 + 48 * f + (4 + v) ≡ slotAddress f v
-slot-address f v h k = omega arith
+pub slot-place : (f v : ℕ) {at : ℕ} → at ≡ frameAddress f → v < 44 → at + (4 + v) ≡ slotAddress f v
+slot-place f v e h = omega arith

@@ -28,7 +28,6 @@ use Rattle.table.proofs.StoreLaws.{three-only, three-0, three-1, three-2}
 use Rattle.lexer.specs.declared.Numbers.{Numbers}
 use Rattle.line_reader.specs.declared.Cursor.{Cursor}
 use Rattle.line_reader.specs.declared.LineTaken.{LineTaken}
-use Rattle.line_reader.specs.declared.Wanted.{Wanted}
 use Rattle.line_reader.specs.declared.Progress.{Progress}
 use Rattle.line_reader.specs.Told.{readFrom, gotAt, number, LineTold, readTold, stoppedBy, Advanced}
 use Rattle.reader_loop.proofs.LoopLaws.{moved-on}
@@ -58,7 +57,7 @@ module _ {text : List ℕ} (f j : ℕ) {from : Cursor} (w : List ℕ) where
       → {r : Progress} → r ≡ stoppedBy p → PartRead text f j part from w w r
   part-stopped part q l e x cs = subst (PartRead text f j part from w w) (sym (cs ∙ ap stoppedBy e)) (part-refused part q l x)
 
-  module _ {keeps : ℕ} {p : LineTaken} (told : LineTold Wanted.Init keeps text from p) where
+  module _ {keeps : ℕ} {p : LineTaken} (told : LineTold Place.Init keeps text from p) where
     pub field-refused : {q : Reason} {l : ℕ} → p ≡ LineTaken.Refused q l → {r : Progress} → r ≡ stoppedBy p → PartRead text f j (fieldPart keeps) from w w r
     unfolding fieldPart
     field-refused {q} {l} e = part-stopped (fieldPart keeps) q l e (line-stop text number (λ k. give (init k)) (told .told) e)
@@ -161,7 +160,7 @@ module _ {text : List ℕ} (f j : ℕ) {from : Cursor} (w : List ℕ) where
       body-read forms keeps count hf hj some room size stored (subst (λ (k : ℕ). InstrsRead text k forms (keeps + 2) from w₁ w′ r) en m)
 
   -- by what the `body` line's reader gave
-  module _ (forms keeps : ℕ) {p : LineTaken} (told : LineTold Wanted.Body (from .used) text from p) where
+  module _ (forms keeps : ℕ) {p : LineTaken} (told : LineTold Place.Body (from .used) text from p) where
     pub method-refused : {q : Reason} {l : ℕ} → p ≡ LineTaken.Refused q l → {r : Progress} → r ≡ stoppedBy p → PartRead text f j (methodPart forms keeps (from .used)) from w w r
     unfolding methodPart
     method-refused {q} {l} e = part-stopped (methodPart forms keeps (from .used)) q l e (line-stop text number (bodyRest forms keeps) (told .told) e)

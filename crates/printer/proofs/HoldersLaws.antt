@@ -15,7 +15,7 @@ use Rattle.printer.specs.Printed.{entryCount, entryAt}
 use Rattle.line_writer.proofs.PutLaws.{put-none, put-size, put-then}
 
 -- an entry's numbers, where the entries before it end
-module _ (numbers done tail : List ℕ) (x : Holding) (e : numbers ≡ done ++ (entryOf x ++ tail)) where
+module _ {numbers : List ℕ} (done tail : List ℕ) (x : Holding) (e : numbers ≡ done ++ (entryOf x ++ tail)) where
   here : (n : ℕ) → getD numbers (length done + n) 0 ≡ getD (entryOf x ++ tail) n 0
   here n = ap (λ (z : List ℕ). getD z (length done + n) 0) e ∙ getD-append-add done (entryOf x ++ tail) n 0
 
@@ -67,17 +67,17 @@ pub record Printing (hs : List Holding) (out : List ℕ) (at : ℕ) (out₁ : Li
   pub place : from ≡ length (entries done)
   pub put : Put (11 * from) at (holderLines done) out out₁ at₁
 
-pub printing-start : (hs : List Holding) (out : List ℕ) (at : ℕ) → Printing hs out at out at 0
+pub printing-start : {hs : List Holding} {out : List ℕ} {at : ℕ} → Printing hs out at out at 0
 unfolding entries holderLines
-printing-start hs out at = record { done = []; rest = hs; all = refl; place = refl; put = put-none out at }
+printing-start {hs} = record { done = []; rest = hs; all = refl; place = refl; put = put-none }
 
-module _ (hs : List Holding) (numbers₀ numbers : List ℕ) (en : numbers ≡ begun (entries hs) numbers₀) (out : List ℕ) (at : ℕ) (room : at + 11 * length (entries hs) ≤ length out) (out₁ : List ℕ) (at₁ from : ℕ)
+module _ {hs : List Holding} (numbers₀ : List ℕ) {numbers : List ℕ} (en : numbers ≡ begun (entries hs) numbers₀) {out : List ℕ} {at : ℕ} (room : at + 11 * length (entries hs) ≤ length out) {out₁ : List ℕ} {at₁ from : ℕ}
     (p : Printing hs out at out₁ at₁ from) where
   sum : length (entries (p .done)) + length (entries (p .rest)) ≡ length (entries hs)
   sum = sym (length-append (entries (p .done)) (entries (p .rest))) ∙ ap length (sym (entries-append (p .done) (p .rest)) ∙ ap entries (p .all))
 
   pub printing-size : length out₁ ≡ length out
-  printing-size = put-size (11 * from) at (holderLines (p .done)) out out₁ at₁ (p .put) (omega (arith, sum, p .place))
+  printing-size = put-size (p .put) (omega (arith, sum, p .place))
 
   pub from-end : from ≤ length (entries hs)
   from-end = omega (arith, sum, p .place)
@@ -106,10 +106,10 @@ module _ (hs : List Holding) (numbers₀ numbers : List ℕ) (en : numbers ≡ b
         ∙ ap (λ (z : List ℕ). entries (p .done) ++ z) (append-assoc (entryOf (next .first)) (entries (next .more)) (drop (length (entries hs)) numbers₀))
 
     count : entryCount numbers from ≡ length (next .first .held)
-    count = ap (entryCount numbers) (p .place) ∙ entry-count numbers (entries (p .done)) tail (next .first) split
+    count = ap (entryCount numbers) (p .place) ∙ entry-count (entries (p .done)) tail (next .first) split
 
     first : entryAt numbers from ≡ next .first
-    first = ap (entryAt numbers) (p .place) ∙ entry-is numbers (entries (p .done)) tail (next .first) split
+    first = ap (entryAt numbers) (p .place) ∙ entry-is (entries (p .done)) tail (next .first) split
 
     -- the entry lies within the entries
     pub entry-within : from + (2 + entryCount numbers from) ≤ length (entries hs)
@@ -129,12 +129,12 @@ module _ (hs : List Holding) (numbers₀ numbers : List ℕ) (en : numbers ≡ b
     pub line-inside : at₁ + (18 + 11 * entryCount numbers from) ≤ length out₁
     line-inside = omega (arith, entry-within, printing-size, p .put .few)
 
-    module _ (n : ℕ) (e : n ≡ entryCount numbers from) where
+    module _ {n : ℕ} (e : n ≡ entryCount numbers from) where
       pub entry-less : length (entries hs) - (from + 2 + n) < length (entries hs) - from
       entry-less = omega (arith, entry-within)
 
-      pub printing-next : (out₂ : List ℕ) (at₂ : ℕ) → Put (18 + 11 * entryCount numbers from) at₁ (holderLine (entryAt numbers from)) out₁ out₂ at₂ → Printing hs out at out₂ at₂ (from + 2 + n)
-      printing-next out₂ at₂ q =
+      pub printing-next : {out₂ : List ℕ} {at₂ : ℕ} → Put (18 + 11 * entryCount numbers from) at₁ (holderLine (entryAt numbers from)) out₁ out₂ at₂ → Printing hs out at out₂ at₂ (from + 2 + n)
+      printing-next {out₂} {at₂} q =
           record {
             done = p .done ++ (next .first ∷ []);
             rest = next .more;
@@ -156,4 +156,4 @@ module _ (hs : List Holding) (numbers₀ numbers : List ℕ) (en : numbers ≡ b
           both =
               subst (λ (xs : List ℕ). Put (11 * from + (18 + 11 * entryCount numbers from)) at xs out out₂ at₂)
               (ap (λ (x : Holding). holderLines (p .done) ++ holderLine x) first ∙ sym (lines-snoc (p .done) (next .first)))
-              (put-then (11 * from) at (holderLines (p .done)) out out₁ at₁ (p .put) (omega arith) (18 + 11 * entryCount numbers from) (holderLine (entryAt numbers from)) out₂ at₂ q)
+              (put-then (p .put) (omega arith) q)

@@ -31,7 +31,6 @@ use Rattle.table.proofs.StoreLaws.{three-only, three-0, three-1, three-2}
 use Rattle.lexer.specs.declared.Numbers.{Numbers}
 use Rattle.line_reader.specs.declared.Cursor.{Cursor}
 use Rattle.line_reader.specs.declared.LineTaken.{LineTaken}
-use Rattle.line_reader.specs.declared.Wanted.{Wanted}
 use Rattle.line_reader.specs.declared.Progress.{Progress}
 use Rattle.line_reader.specs.Told.{readFrom, number as first, lineRead, LineTold, stoppedBy}
 use Rattle.reader_loop.proofs.ThenLaws.{Past, past, then-stop, line-then, line-stop, line-gives, moved-then, moved-stop}
@@ -93,7 +92,7 @@ rest-refused {w′ = w′} ev ex o =
     record { told = ap (λ (y : Verdict). verdictMeans y (sheetIn w′)) ev ∙ sym (ap conclude ex); only = o; placed = not-accepted ev }
 
 module _ {text : List ℕ} {rows forms : ℕ} {from : Cursor} {w : List ℕ} (ready : Ready rows w) (small : forms ≤ 64) (by : FormsUsed w forms (from .used))
-    {p : LineTaken} (told : LineTold Wanted.Main (from .used) text from p) where
+    {p : LineTaken} (told : LineTold Place.Main (from .used) text from p) where
   told-here : lineRead text first p ≡ readFrom text from (one (bodyLine Place.Main (sizeOfForms (formsIn w forms))))
   told-here = told .told ∙ ap (λ (u : ℕ). readFrom text from (one (bodyLine Place.Main u))) (by .counted)
 

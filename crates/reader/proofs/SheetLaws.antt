@@ -33,7 +33,6 @@ use Rattle.table.proofs.RowLaws.{rows-ready, ready-kept}
 use Rattle.lexer.specs.declared.Numbers.{Numbers}
 use Rattle.line_reader.specs.declared.Cursor.{Cursor}
 use Rattle.line_reader.specs.declared.LineTaken.{LineTaken}
-use Rattle.line_reader.specs.declared.Wanted.{Wanted}
 use Rattle.line_reader.specs.declared.Progress.{Progress}
 use Rattle.line_reader.specs.Told.{Room, readFrom, gotAt, number, LineTold, readTold, stoppedBy}
 use Rattle.reader_loop.proofs.LoopLaws.{moved-on}
@@ -45,7 +44,7 @@ use Rattle.reader.proofs.MainLaws.{not-accepted, refused-by, rest-refus
 
 -- FORMS AND MAIN
 
-module _ {text : List ℕ} {rows : ℕ} {from : Cursor} {w : List ℕ} (ready : Ready rows w) {b : ℕ} {p : LineTaken} (told : LineTold Wanted.Forms b text from p) where
+module _ {text : List ℕ} {rows : ℕ} {from : Cursor} {w : List ℕ} (ready : Ready rows w) {b : ℕ} {p : LineTaken} (told : LineTold Place.Forms b text from p) where
   pub forms-line-refused : {q : Reason} {l : ℕ} → p ≡ LineTaken.Refused q l → {s : Progress} → s ≡ stoppedBy p → {v : Verdict} → v ≡ progressVerdict s
       → RestRead text (rowsRest (rowsIn w rows)) from w w v
   unfolding rowsRest
@@ -97,7 +96,7 @@ sheet-rest : (ls : List Line) (n : ℕ)
 unfolding readSheet rowsRest formsRest mainRest instrsRest endRest
 sheet-rest ls n = refl
 
-module _ {text : List ℕ} (w : List ℕ) (size : workSize ≤ length w) {b : ℕ} {p : LineTaken} (told : LineTold Wanted.Types b text textStart p) where
+module _ {text : List ℕ} (w : List ℕ) (size : workSize ≤ length w) {b : ℕ} {p : LineTaken} (told : LineTold Place.Types b text textStart p) where
   pub types-refused : {q : Reason} {l : ℕ} → p ≡ LineTaken.Refused q l → {s : Progress} → s ≡ stoppedBy p → {v : Verdict} → v ≡ progressVerdict s → RestRead text readSheet textStart w w v
   types-refused e cs cv =
       rest-refused (refused-by (cs ∙ ap stoppedBy e) cv)

@@ -13,7 +13,7 @@ ghost use Rattle.reader.specs.Reads.{progressVerdict, textStart, mainRes
 use line_reader::Cursor;
 use line_reader::LineTaken;
 use line_reader::Progress;
-use line_reader::Wanted;
+use sheet_rules::Place;
 use sheet_rules::Reason;
 use sheet_rules::Verdict;
 use table::rows::wide;
@@ -33,16 +33,11 @@ fn read_main(text: &[u8], work: &mut [u16], rows: u16, forms: u16, from: Cursor)
     requires { ⌜ Room (now text) from × (forms ≤ 64) × Ready rows (now work) × FormsUsed (now work) forms (from .used) ⌝ }
     ensures { λ r. ⌜ RestRead (now (text .entry)) (mainRest (rowsIn (now (work .entry)) rows) forms (formsIn (now (work .entry)) forms)) from (now (work .entry)) (now (work .exit)) r ⌝ }
 {
-    let head = line_reader::take_line(text, from, Wanted::Main, from.used as u32);
-    let LineTaken::Line {
-        place: _,
-        numbers,
-        next,
-    } = head
-    else {
+    let head = line_reader::take_line(text, from, Place::Main, from.used as u32);
+    let LineTaken::Line { place: _, ns, next } = head else {
         return progress_verdict(line_reader::stopped(head));
     };
-    let count = numbers.n0;
+    let count = ns.n0;
     table::stores::put_counts(work, rows, forms, next.used, count);
     let body = instr_reader::read_instrs(text, work, wide(count), forms, 0, next);
     let Progress::Moved { to } = body else {
@@ -62,16 +57,11 @@ fn read_after_rows(text: &[u8], work: &mut [u16], rows: u16, from: Cursor) -> Ve
     requires { ⌜ Room (now text) from × (from .used ≡ 0) × Ready rows (now work) ⌝ }
     ensures { λ r. ⌜ RestRead (now (text .entry)) (rowsRest (rowsIn (now (work .entry)) rows)) from (now (work .entry)) (now (work .exit)) r ⌝ }
 {
-    let head = line_reader::take_line(text, from, Wanted::Forms, 0);
-    let LineTaken::Line {
-        place: _,
-        numbers,
-        next,
-    } = head
-    else {
+    let head = line_reader::take_line(text, from, Place::Forms, 0);
+    let LineTaken::Line { place: _, ns, next } = head else {
         return progress_verdict(line_reader::stopped(head));
     };
-    let forms = numbers.n0;
+    let forms = ns.n0;
     let read = form_reader::read_forms(text, work, rows, forms, next);
     let Progress::Moved { to } = read else {
         return progress_verdict(read);
@@ -89,16 +79,11 @@ fn read_from_types(text: &[u8], work: &mut [u16]) -> Verdict
         line: 1,
         used: 0,
     };
-    let head = line_reader::take_line(text, from, Wanted::Types, 0);
-    let LineTaken::Line {
-        place: _,
-        numbers,
-        next,
-    } = head
-    else {
+    let head = line_reader::take_line(text, from, Place::Types, 0);
+    let LineTaken::Line { place: _, ns, next } = head else {
         return progress_verdict(line_reader::stopped(head));
     };
-    let rows = numbers.n0;
+    let rows = ns.n0;
     let read = row_reader::read_rows(text, work, wide(rows), next);
     let Progress::Moved { to } = read else {
         return progress_verdict(read);

@@ -1,4 +1,5 @@
 -- What the library's answers are in numbers, as a caller in C has them (document 01, Turned away). Stands on the answers.
+use Prim.Native.Nat.{ℕ}
 use Rattle.sheet_rules.specs.declared.Verdict.{Verdict}
 use Rattle.sheet_rules.specs.Answers.{numberOf, verdictNumber, verdictLine}
 use Rattle.type_rules.specs.declared.FitReply.{FitReply}
@@ -34,7 +35,10 @@ authorityResult (AuthorityReply.Holds n) = record { refusal = 0; line = 0; count
 authorityResult (AuthorityReply.Refused r n) = record { refusal = numberOf r; line = n; count = 0 }
 
 -- the report: the run's numbers and how many numbers were written; or a refusal's number and line, and the rest 0
+abbrev pub countedResult : RunResult → ℕ → ReportResult
+countedResult r n =
+    record { refusal = r .refusal; line = r .line; outcome = r .outcome; steps = r .steps; value = r .value; objects = r .objects; count = n }
+
 abbrev pub reportResult : ReportReply → ReportResult
-reportResult (ReportReply.Reported a n) =
-    record { refusal = 0; line = 0; outcome = outcomeNumber (a .outcome); steps = a .steps; value = a .value; objects = a .objects; count = n }
-reportResult (ReportReply.Refused r n) = record { refusal = numberOf r; line = n; outcome = 0; steps = 0; value = 0; objects = 0; count = 0 }
+reportResult (ReportReply.Reported a n) = countedResult (runResult (RunReply.Ran a)) n
+reportResult (ReportReply.Refused r n) = countedResult (runResult (RunReply.Refused r n)) 0

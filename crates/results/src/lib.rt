@@ -2,7 +2,7 @@
 ghost use mathlib.Core.Path.{_≡_};
 ghost use Rattle.sheet_rules.specs.Answers.{numberOf};
 ghost use Rattle.machine_rules.specs.Steps.{outcomeNumber};
-ghost use Rattle.results.specs.Results.{fitResult, verdictResult, runResult, authorityResult, reportResult};
+ghost use Rattle.results.specs.Results.{fitResult, verdictResult, runResult, authorityResult, countedResult, reportResult};
 use authority_rules::AuthorityReply;
 use authority_rules::ReportReply;
 use machine_rules::Outcome;
@@ -173,31 +173,31 @@ pub fn authority_result(reply: AuthorityReply) -> AuthorityResult
     }
 }
 
+// A run's numbers, and how many numbers were written.
+fn counted(run: RunResult, count: u32) -> ReportResult
+    ensures { λ r. ⌜ r ≡ countedResult run count ⌝ }
+{
+    ReportResult {
+        refusal: run.refusal,
+        line: run.line,
+        outcome: run.outcome,
+        steps: run.steps,
+        value: run.value,
+        objects: run.objects,
+        count,
+    }
+}
+
 // The report's reply in numbers.
 pub fn report_result(reply: ReportReply) -> ReportResult
     ensures { λ r. ⌜ r ≡ reportResult reply ⌝ }
 {
     match reply {
         ReportReply::Reported { answer, count } => {
-            let outcome = answer.outcome;
-            ReportResult {
-                refusal: 0,
-                line: 0,
-                outcome: outcome_number(outcome),
-                steps: answer.steps,
-                value: answer.value as u32,
-                objects: answer.objects as u32,
-                count,
-            }
+            counted(run_result(RunReply::Ran { answer }), count)
         }
-        ReportReply::Refused { reason, line } => ReportResult {
-            refusal: number_of(reason),
-            line,
-            outcome: 0,
-            steps: 0,
-            value: 0,
-            objects: 0,
-            count: 0,
-        },
+        ReportReply::Refused { reason, line } => {
+            counted(run_result(RunReply::Refused { reason, line }), 0)
+        }
     }
 }

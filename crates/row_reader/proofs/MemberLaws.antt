@@ -4,6 +4,7 @@ use mathlib.Core.Path.{_≡_, refl, sym, ap, _∙_, subst}
 use mathlib.Core.List.{List}
 use lib.ListN.{length}
 use Rattle.sheet_rules.specs.declared.Member.{Member}
+use Rattle.sheet_rules.specs.declared.MemberKind.{MemberKind}
 use Rattle.sheet_rules.specs.declared.Place.{Place}
 use Rattle.sheet_rules.specs.declared.Reason.{Reason}
 use Rattle.sheet_rules.specs.Reader.{Judged, one}
@@ -17,14 +18,13 @@ use Rattle.table.proofs.ViewLaws.{only-refl}
 use Rattle.line_reader.specs.declared.Cursor.{Cursor}
 use Rattle.line_reader.specs.declared.LineTaken.{LineTaken}
 use Rattle.line_reader.specs.declared.Progress.{Progress}
-use Rattle.line_reader.specs.declared.Wanted.{Wanted}
 use Rattle.line_reader.specs.Told.{readFrom, lineAsked, LineTold, stoppedBy, Advanced}
 use Rattle.reader_loop.proofs.ThenLaws.{past, past-moved}
 use Rattle.row_reader.specs.Reads.{headingIn, Kept, MemberRead}
 
 -- by what the line's reader gave
 module _ {text : List ℕ} (i j : ℕ) {from : Cursor} (w : List ℕ) {lowest : ℕ} (low : Lowest (membersIn w i j) lowest)
-    {p : LineTaken} (told : LineTold Wanted.Member lowest text from p) where
+    {p : LineTaken} (told : LineTold (Place.Member MemberKind.Method) lowest text from p) where
   abbrev asked : Place → Numbers → Judged Member
   asked k ns = memberRest (length (rowsIn w i)) (rowsIn w i) (headingIn w i) (membersIn w i j) k (listOf ns)
 

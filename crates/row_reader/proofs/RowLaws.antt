@@ -28,7 +28,6 @@ use Rattle.table.proofs.ViewLaws.{only-refl, only-set, only-trans, only-widen, 
 use Rattle.lexer.specs.declared.Numbers.{Numbers}
 use Rattle.line_reader.specs.declared.Cursor.{Cursor}
 use Rattle.line_reader.specs.declared.LineTaken.{LineTaken}
-use Rattle.line_reader.specs.declared.Wanted.{Wanted}
 use Rattle.line_reader.specs.declared.Progress.{Progress}
 use Rattle.line_reader.specs.Told.{readFrom, lineAsked, LineTold, readTold, stoppedBy, Advanced}
 use Rattle.reader_loop.proofs.ThenLaws.{past, advanced-sooner}
@@ -161,7 +160,7 @@ unfolding rowRest andThen
 rest-refused earlier q n = refl
 
 -- by what the heading's reader gave
-module _ {text : List ℕ} {from : Cursor} (i : ℕ) (w : List ℕ) {b : ℕ} {p : LineTaken} (told : LineTold Wanted.Row b text from p) where
+module _ {text : List ℕ} {from : Cursor} (i : ℕ) (w : List ℕ) {b : ℕ} {p : LineTaken} (told : LineTold Place.Row b text from p) where
   abbrev asked : Place → Numbers → Judged Heading
   asked k ns = rowTold (rowsIn w i) (ns .n0) (ns .n1)
 

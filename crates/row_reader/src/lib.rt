@@ -10,65 +10,61 @@ use lexer::Numbers;
 use line_reader::Cursor;
 use line_reader::LineTaken;
 use line_reader::Progress;
-use line_reader::Wanted;
+use sheet_rules::MemberKind;
 use sheet_rules::Place;
 use sheet_rules::Reason;
 
-// Stores a judged member, read at a line, as member j of row i, and tests the row.
+// Which member is read: member j of row i, which has `count` of them.
+pub struct MemberAt {
+    pub i: usize,
+    pub j: usize,
+    pub count: usize,
+}
+
+// Stores a judged member, read at a line, and tests the row.
 fn keep_member(
     work: &mut [u16],
-    i: usize,
-    j: usize,
-    count: usize,
+    at: MemberAt,
     place: Place,
-    numbers: Numbers,
+    ns: Numbers,
     line: u32,
-    next: Cursor,
+    to: Cursor,
 ) -> Progress
-    requires { ⌜ InRow (now work) i j count × MemberShaped place numbers × (next .line ≡ line + 1) ⌝ }
-    ensures { λ r. ⌜ Kept i j place numbers line next (now (work .entry)) (now (work .exit)) r ⌝ }
+    requires { ⌜ InRow (now work) (at .i) (at .j) (at .count) × MemberShaped place ns × (to .line ≡ line + 1) ⌝ }
+    ensures { λ r. ⌜ Kept (at .i) (at .j) place ns line to (now (work .entry)) (now (work .exit)) r ⌝ }
 {
     let kind = line_judges::member_kind(place);
-    table::stores::put_member(work, i, j, kind, numbers.n0, numbers.n1, numbers.n2);
-    if row_store::completes_twin(work, i, j, count) {
+    table::stores::put_member(work, at.i, at.j, kind, ns.n0, ns.n1, ns.n2);
+    if row_store::completes_twin(work, at.i, at.j, at.count) {
         return Progress::Refused {
             reason: Reason::DuplicateRow,
             line,
         };
     }
-    let m = table::rows::member(work, i, j);
-    if !row_store::mentions_below(i, m) {
+    let m = table::rows::member(work, at.i, at.j);
+    if !row_store::mentions_below(at.i, m) {
         return Progress::Refused {
             reason: Reason::NotDefined,
             line,
         };
     }
-    Progress::Moved { to: next }
+    Progress::Moved { to }
 }
 
-// Member j of row i, of `count` members.
-fn read_member(
-    text: &[u8],
-    work: &mut [u16],
-    i: usize,
-    j: usize,
-    count: usize,
-    from: Cursor,
-) -> Progress
-    requires { ⌜ Room (now text) from × InRow (now work) i j count ⌝ }
-    ensures { λ r. ⌜ MemberRead (now (text .entry)) i j from (now (work .entry)) (now (work .exit)) r ⌝ }
+// A member.
+fn read_member(text: &[u8], work: &mut [u16], at: MemberAt, from: Cursor) -> Progress
+    requires { ⌜ Room (now text) from × InRow (now work) (at .i) (at .j) (at .count) ⌝ }
+    ensures { λ r. ⌜ MemberRead (now (text .entry)) (at .i) (at .j) from (now (work .entry)) (now (work .exit)) r ⌝ }
 {
-    let lowest = row_store::lowest_name(work, i, j);
-    let read = line_reader::take_line(text, from, Wanted::Member, lowest);
-    let LineTaken::Line {
-        place,
-        numbers,
-        next,
-    } = read
-    else {
+    let lowest = row_store::lowest_name(work, at.i, at.j);
+    let wanted = Place::Member {
+        kind: MemberKind::Method,
+    };
+    let read = line_reader::take_line(text, from, wanted, lowest);
+    let LineTaken::Line { place, ns, next } = read else {
         return line_reader::stopped(read);
     };
-    keep_member(work, i, j, count, place, numbers, from.line, next)
+    keep_member(work, at, place, ns, from.line, next)
 }
 
 // The members of row i, whose heading is stored.
@@ -79,7 +75,7 @@ fn read_members(text: &[u8], work: &mut [u16], i: usize, count: usize, from: Cur
     let mut j = 0;
     let mut here = from;
     while j < count {
-        let r = read_member(text, work, i, j, count, here);
+        let r = read_member(text, work, MemberAt { i, j, count }, here);
         let Progress::Moved { to } = r else {
             return r;
         };
@@ -90,27 +86,19 @@ fn read_members(text: &[u8], work: &mut [u16], i: usize, count: usize, from: Cur
 }
 
 // Stores the heading of row i, read at a line, and reads its members.
-fn keep_row(
-    text: &[u8],
-    work: &mut [u16],
-    i: usize,
-    kind: u16,
-    count: u16,
-    line: u32,
-    next: Cursor,
-) -> Progress
-    requires { ⌜ Room (now text) next × (next .line ≡ line + 1) × (i < 64) × (count ≤ 8) × (workSize ≤ length (now work)) ⌝ }
-    ensures { λ r. ⌜ RowKept (now (text .entry)) i kind count line next (now (work .entry)) (now (work .exit)) r ⌝ }
+fn keep_row(text: &[u8], work: &mut [u16], i: usize, ns: Numbers, line: u32, to: Cursor) -> Progress
+    requires { ⌜ Room (now text) to × (to .line ≡ line + 1) × (i < 64) × (ns .n1 ≤ 8) × (workSize ≤ length (now work)) ⌝ }
+    ensures { λ r. ⌜ RowKept (now (text .entry)) i (ns .n0) (ns .n1) line to (now (work .entry)) (now (work .exit)) r ⌝ }
 {
-    table::stores::put_row_head(work, i, kind, count);
-    let members = table::rows::wide(count);
+    table::stores::put_row_head(work, i, ns.n0, ns.n1);
+    let members = table::rows::wide(ns.n1);
     if row_store::lone_twin(work, i, members) {
         return Progress::Refused {
             reason: Reason::DuplicateRow,
             line,
         };
     }
-    read_members(text, work, i, members, next)
+    read_members(text, work, i, members, to)
 }
 
 // Row i.
@@ -118,16 +106,11 @@ fn read_row(text: &[u8], work: &mut [u16], i: usize, from: Cursor) -> Progress
     requires { ⌜ Room (now text) from × (i < 64) × (workSize ≤ length (now work)) ⌝ }
     ensures { λ r. ⌜ RowRead (now (text .entry)) i from (now (work .entry)) (now (work .exit)) r ⌝ }
 {
-    let read = line_reader::take_line(text, from, Wanted::Row, 0);
-    let LineTaken::Line {
-        place: _,
-        numbers,
-        next,
-    } = read
-    else {
+    let read = line_reader::take_line(text, from, Place::Row, 0);
+    let LineTaken::Line { place: _, ns, next } = read else {
         return line_reader::stopped(read);
     };
-    keep_row(text, work, i, numbers.n0, numbers.n1, from.line, next)
+    keep_row(text, work, i, ns, from.line, next)
 }
 
 // The rows of a sheet, as many as its `types` line says.

@@ -27,7 +27,7 @@ fn run_text(text: &[u8], budget: u32, work: &mut [u16]) -> RunReply
 pub fn ask_run(text: &[u8], budget: u32, work: &mut [u16]) -> RunReply
     ensures { λ r. ⌜ RunAsked (now (text .entry)) budget (now (work .entry)) (now (work .exit)) r ⌝ }
 {
-    if work.len() < 32768 {
+    if !question::enough(work.len(), 0, 0) {
         return RunReply::Refused {
             reason: Reason::BufferTooShort,
             line: 0,

@@ -1,5 +1,6 @@
 -- Where everything lies in the 32,768 numbers of the work buffer. Every place is clamped into its own part, so that parts never
--- overlap, whatever the numbers in them are. Every address is said here. Stands on nothing.
+-- overlap, whatever the numbers in them are. The address of each thing is said here; which of its numbers is which, in View and Stores.
+-- Stands on nothing.
 use Prim.Native.Nat.{ℕ, _+_, _*_, min}
 
 -- the sheet's counts: rows, forms, where main's instructions begin, and how many they are

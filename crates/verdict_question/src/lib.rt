@@ -24,7 +24,7 @@ pub fn judge_text(text: &[u8], work: &mut [u16]) -> Verdict
 pub fn ask_verdict(text: &[u8], work: &mut [u16]) -> Verdict
     ensures { λ r. ⌜ VerdictAsked (now (text .entry)) (now (work .entry)) (now (work .exit)) r ⌝ }
 {
-    if work.len() < 32768 {
+    if !question::enough(work.len(), 0, 0) {
         return Verdict::Refused {
             reason: Reason::BufferTooShort,
             line: 0,

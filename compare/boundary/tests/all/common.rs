@@ -9,7 +9,7 @@ pub const CLERK: &[u8] = include_bytes!("../../../../examples/clerk.sheet");
 /// L, a method that calls itself for ever.
 pub const LOOP: &[u8] = include_bytes!("../../../../examples/stack-full.sheet");
 
-/// A sheet that does not end in so many steps is taken for endless.
+/// A sheet that does not end in this number of steps is taken for endless.
 const LONG: u32 = 20_000;
 
 /// Numbers for a buffer at entry, which must have no influence.

@@ -76,7 +76,7 @@ impl Seen {
     }
 }
 
-/// So many sheets, half of them in a thread of their own.
+/// `count` sheets, half of them in a thread of their own.
 fn compare_all(count: u64, sheet: impl Fn(u64) -> Vec<u8> + Sync) -> Seen {
     let half = |first: u64| {
         let mut seen = Seen::default();

@@ -5,8 +5,8 @@ use boundary::{run, RunResult, WORK};
 use second::machine::Machine;
 use second::{Outcome, Refusal, RunAnswer, Sheet};
 
-/// A sheet that does not end in so many steps is taken for endless, and gets
-/// no larger budget.
+/// A sheet that does not end in this number of steps is taken for endless, and
+/// gets no larger budget.
 const LONG: u32 = 100_000;
 
 fn wanted(answer: Result<RunAnswer, Refusal>) -> RunResult {

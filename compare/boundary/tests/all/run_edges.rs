@@ -48,8 +48,8 @@ fn the_loop_at_the_paper_s_budgets() {
     }
 }
 
-/// One method that makes so many objects, called so many times by main,
-/// which then makes more itself.
+/// One method that makes `made` objects, called `calls` times by main, which
+/// then makes `more` itself.
 fn makers(made: usize, calls: usize, more: usize) -> Vec<u8> {
     let head = "types=2\ntype=0,0\ntype=1,1\ndef=0,0,0\nforms=2\nform=0,0\nform=1,0\n";
     let body = format!("body={made}\n{}", "new=0\n".repeat(made));

@@ -98,7 +98,7 @@ fn over_measure() {
     assert_eq!(changed(&[(6, "def=63,0,0"), (18, "call=1,63,0")]), (0, 0));
 }
 
-/// A sheet with so many bodies of 32, one of `last`, and a main of `main`.
+/// A sheet with `bodies` bodies of 32, one of `last`, and a main of `main`.
 fn long_code(bodies: usize, last: usize, main: usize) -> Vec<u8> {
     let mut text = String::from("types=2\ntype=0,0\ntype=1,1\ndef=0,0,0\n");
     text += &format!("forms={}\nform=0,0\n", bodies + 2);

@@ -5,12 +5,6 @@ use Rattle.instr_typing.specs.Told.{rowFound}
 use Rattle.code_typing.proofs.CodeLaws.{CodeGoing, slots-whole, code-start, code-end, code-stop, code-next}
 use Rattle.code_typing.proofs.judge_code.Statement.{statement}
 use Rattle.code_typing.proofs.judge_code.Tie as tie
-use Rattle.code_typing.proofs.judge_code.Reads as reads
-use Rattle.code_typing.proofs.judge_code.Lts as lts
-use Rattle.code_typing.proofs.judge_line.Reads as judge-line-reads
-use Rattle.code_typing.proofs.stopped.Reads as stopped-reads
-use Rattle.table.proofs.instrs.put_slot_row.Reads as put-slot-row-reads
-use Rattle.table.proofs.rows.wide.Reads as wide-reads
 
 abbrev Inv-loop : tie.InvT-loop
 Inv-loop work₀ own wanted filled start count first j₀ line₀ work j line = CodeGoing (rowFound own) (rowFound wanted) filled start count first work₀ work j line
@@ -18,87 +12,49 @@ Inv-loop work₀ own wanted filled start count first j₀ line₀ work j line = 
 abbrev μ-loop : tie.MeasureT-loop
 μ-loop work₀ own wanted filled start count first j₀ line₀ work j line = count - j
 
--- src/lib.rt:77:5
 loop-holds : tie.Need-loop-holds Inv-loop μ-loop
 loop-holds c = code-start
 
--- src/lib.rt:82:13
 add-judge-line : tie.Need-add-judge-line Inv-loop μ-loop
 add-judge-line c = omega (arith, (c .before .before .before .before .pre .1), c .before .loop-test .taken)
 
--- src/lib.rt:83:13
-wide-requires : tie.Need-wide-requires Inv-loop μ-loop
-wide-requires c κs = search needs
-
--- src/lib.rt:83:13
 add-judge-line-2 : tie.Need-add-judge-line-2 Inv-loop μ-loop
 add-judge-line-2 c =
     let b = c .before .before .before .before .before in
     omega (arith, b .pre .1, c .wide .ensures, b .fits .start, c .before .before .loop-test .taken)
 
--- src/lib.rt:84:13
 add-judge-line-3 : tie.Need-add-judge-line-3 Inv-loop μ-loop
 add-judge-line-3 c =
     let b = c .before .before .before .before .before in
     omega (arith, b .pre .1, c .before .before .loop-test .taken)
 
--- src/lib.rt:78:13
 judge-line-requires : tie.Need-judge-line-requires Inv-loop μ-loop
 judge-line-requires c κs =
     let b = c .before .before .before .before .before in
     (omega (arith, b .pre .1, c .before .before .loop-test .taken), slots-whole (c .before .before .before .loop .inv .only) (b .pre .0))
 
--- src/lib.rt:86:33
-enum-known-judged : tie.Need-enum-known-judged Inv-loop μ-loop
-enum-known-judged c = search needs
-
--- src/lib.rt:87:13
-enum-told : tie.Need-enum-told Inv-loop μ-loop
-enum-told c = search needs
-
--- src/lib.rt:87:13
-stopped-requires : tie.Need-stopped-requires Inv-loop μ-loop
-stopped-requires c κs = search needs
-
--- src/lib.rt:87:13
 same-length : tie.Need-same-length Inv-loop μ-loop
 same-length c =
     let b = c .before .before .before .before .before .before .before in
     b .loop .inv .only .size
 
--- src/lib.rt:87:13
 returns : tie.Need-returns Inv-loop μ-loop
 returns c =
     let b = c .before .before .before .before .before .before in
     code-stop (b .before .loop .inv) (b .loop-test .taken) (c .before .before .before .before .wide .ensures) (c .before .before .before .judge-line .ensures) (c .before .enum-told .given .1) (c .stopped .ensures)
 
--- src/lib.rt:89:43
-add-put-slot-row : tie.Need-add-put-slot-row Inv-loop μ-loop
-add-put-slot-row c = search needs
-
--- src/lib.rt:89:9
 put-slot-row-requires : tie.Need-put-slot-row-requires Inv-loop μ-loop
 put-slot-row-requires c κs =
     let b = c .before .before .before .before .before .before .before in
     let start = b .before .before .before .pre in
     (omega (arith, start .1, b .loop-test .taken), omega (arith, b .before .loop .inv .only .size, start .0 .size))
 
--- src/lib.rt:90:16
 add-line : tie.Need-add-line Inv-loop μ-loop
 add-line c =
     let b = c .before .before .before .before .before .before .before .before .before .before in
     let start = b .before .before .before .pre in
     omega (arith, b .before .loop .inv .lined, start .1, start .2, b .loop-test .taken)
 
--- src/lib.rt:91:13
-add-j : tie.Need-add-j Inv-loop μ-loop
-add-j c = omega arith
-
--- src/lib.rt:77:5
-loop-less : tie.Need-loop-less Inv-loop μ-loop
-loop-less c = omega arith
-
--- src/lib.rt:77:5
 loop-again : tie.Need-loop-again Inv-loop μ-loop
 loop-again c =
     let b = c .before .before .before .before .before .before .before .before .before .before in
@@ -106,11 +62,9 @@ loop-again c =
     let judged = c .before .before .before .before .before in
     code-next (b .before .loop .inv) (b .loop-test .taken) (judged .before .before .before .wide .ensures) (judged .before .before .judge-line .ensures) (start .1) (start .0 .size) (judged .judged .given .1) (c .before .before .put-slot-row .ensures)
 
--- src/lib.rt:63:1
 same-length-2 : tie.Need-same-length-2 Inv-loop μ-loop
 same-length-2 c = (c .before .loop .inv) .only .size
 
--- src/lib.rt:63:1
 returns-2 : tie.Need-returns-2 Inv-loop μ-loop
 returns-2 c = code-end (c .before .loop .inv) (c .loop-test .left)
 
@@ -118,24 +72,6 @@ pub judge-code-spec : {M : Type 1} → statement M
 judge-code-spec =
     tie.close
     (tie.spec
-    Inv-loop
-    μ-loop
-    loop-holds
-    add-judge-line
-    wide-requires
-    add-judge-line-2
-    add-judge-line-3
-    judge-line-requires
-    enum-known-judged
-    enum-told
-    stopped-requires
-    same-length
-    returns
-    add-put-slot-row
-    put-slot-row-requires
-    add-line
-    add-j
-    loop-less
-    loop-again
-    same-length-2
-    returns-2)
+    Inv-loop μ-loop loop-holds add-judge-line (λ c κs. search needs) add-judge-line-2 add-judge-line-3 judge-line-requires (λ c. search needs)
+    (λ c. search needs) (λ c κs. search needs) same-length returns (λ c. search needs) put-slot-row-requires add-line (λ c. omega arith)
+    (λ c. omega arith) loop-again same-length-2 returns-2)

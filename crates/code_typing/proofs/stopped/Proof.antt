@@ -5,24 +5,13 @@ use Rattle.code_typing.specs.Told.{stoppedAt}
 use borrow.Author.Needs.{needs}
 use Rattle.code_typing.proofs.stopped.Statement.{statement}
 use Rattle.code_typing.proofs.stopped.Tie as tie
-use Rattle.code_typing.proofs.stopped.Reads as reads
-use Rattle.code_typing.proofs.stopped.Lts as lts
 
--- src/lib.rt:56:37
-enum-told : tie.Need-enum-told
-enum-told c = search needs
-
--- src/lib.rt:57:32
-enum-known-judged : tie.Need-enum-known-judged
-enum-known-judged c = search needs
-
--- src/lib.rt:52:1
 returns : tie.Need-returns
 returns c = sym (ap (λ (x : InstrJudged). stoppedAt x (c .before .before .args .line)) (c .enum-told .given .1))
 
--- src/lib.rt:52:1
 returns-2 : tie.Need-returns-2
 returns-2 c = sym (ap (λ (x : InstrJudged). stoppedAt x (c .before .before .before .args .line)) (c .before .judged .given .1))
 
 pub stopped-spec : {M : Type 1} → statement M
-stopped-spec = tie.close (tie.spec enum-told enum-known-judged returns returns-2)
+stopped-spec = tie.close
+    (tie.spec (λ c. search needs) (λ c. search needs) returns returns-2)

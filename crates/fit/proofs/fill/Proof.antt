@@ -14,12 +14,10 @@ Inv-loop work₀ rows m₀ work m = (m ≤ rows) × (work ≡ rowsFilled work₀
 abbrev μ-loop : tie.MeasureT-loop
 μ-loop work₀ rows m₀ work m = rows - m
 
--- src/lib.rt:143:5
 loop-holds : tie.Need-loop-holds Inv-loop μ-loop
 unfolding rowsFilled
 loop-holds c = (omega arith, refl)
 
--- src/lib.rt:144:9
 fill-row-requires : tie.Need-fill-row-requires Inv-loop μ-loop
 fill-row-requires c κs =
     let s = c .before .before .loop .inv .1 in (
@@ -28,28 +26,19 @@ fill-row-requires c κs =
       subst (λ (v : List ℕ). SelfFit (c .before .before .loop .m) v) (sym s) (rows-self (c .before .before .before .before .args .work .now) (c .before .before .before .before .args .rows) (c .before .before .before .before .pre) (c .before .before .loop .m) (c .before .before .loop .inv .0)),
     )
 
--- src/lib.rt:145:13
-add-m : tie.Need-add-m Inv-loop μ-loop
-add-m c = omega arith
-
--- src/lib.rt:143:5
-loop-less : tie.Need-loop-less Inv-loop μ-loop
-loop-less c = omega arith
-
--- src/lib.rt:143:5
 loop-again : tie.Need-loop-again Inv-loop μ-loop
-loop-again c = (
-  omega arith,
-  c .before .before .fill-row .ensures
-      ∙ ap (λ (v : List ℕ). pairsFilled v (c .before .before .before .before .before .loop .m) (c .before .before .before .before .before .loop .m + 1)) (c .before .before .before .before .before .loop .inv .1)
-      ∙ rows-next (c .before .before .before .before .before .before .before .args .work .now) (c .before .before .before .before .before .loop .m),
-)
+loop-again c =
+    let l = c .before .before .before .before .before in
+    let a = l .before .before in (
+      omega arith,
+      c .before .before .fill-row .ensures
+          ∙ ap (λ (v : List ℕ). pairsFilled v (l .loop .m) (l .loop .m + 1)) (l .loop .inv .1)
+          ∙ rows-next (a .args .work .now) (l .loop .m),
+    )
 
--- src/lib.rt:138:1
 same-length : tie.Need-same-length Inv-loop μ-loop
 same-length c = ap length (c .before .loop .inv .1) ∙ (rows-only (c .before .before .before .args .work .now) (c .before .loop .m)) .size
 
--- src/lib.rt:138:1
 returns : tie.Need-returns Inv-loop μ-loop
 returns c =
     subst (λ (v : List ℕ). FitFilled (c .before .before .before .args .rows) (c .before .before .before .args .work .now) v)
@@ -57,15 +46,5 @@ returns c =
     (all-filled (c .before .before .before .args .work .now) (c .before .before .before .args .rows) (c .before .before .before .pre))
 
 pub fill-spec : {M : Type 1} → statement M
-fill-spec =
-    tie.close
-    (tie.spec
-    Inv-loop
-    μ-loop
-    loop-holds
-    fill-row-requires
-    add-m
-    loop-less
-    loop-again
-    same-length
-    returns)
+fill-spec = tie.close (tie.spec Inv-loop μ-loop loop-holds fill-row-requires (λ c. omega arith) (λ c. omega arith) loop-again
+    same-length returns)

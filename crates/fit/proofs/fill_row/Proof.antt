@@ -14,12 +14,10 @@ Inv-loop work₀ m k₀ work k = (k ≤ m + 1) × (work ≡ pairsFilled work₀ 
 abbrev μ-loop : tie.MeasureT-loop
 μ-loop work₀ m k₀ work k = m + 1 - k
 
--- src/lib.rt:131:5
 loop-holds : tie.Need-loop-holds Inv-loop μ-loop
 unfolding pairsFilled
 loop-holds c = (omega arith, refl)
 
--- src/lib.rt:132:9
 fill-pair-requires : tie.Need-fill-pair-requires Inv-loop μ-loop
 fill-pair-requires c κs =
     let s = c .before .before .loop .inv .1 in
@@ -32,41 +30,27 @@ fill-pair-requires c κs =
           (pairs-self (c .before .before .before .before .args .work .now) (c .before .before .before .before .args .m) (c .before .before .loop .k) (omega arith) (let h = c .before .before .loop .inv .0 in omega arith) (c .before .before .before .before .pre .1)),
     )
 
--- src/lib.rt:133:13
 add-k : tie.Need-add-k Inv-loop μ-loop
-add-k c = let r = c .before .before .before .before .before .before .before .pre .0 .few in omega arith
+add-k c =
+    let a = c .before .before .before .before .before .before .before in
+    let r = a .pre .0 .few in omega arith
 
--- src/lib.rt:131:5
-loop-less : tie.Need-loop-less Inv-loop μ-loop
-loop-less c = omega arith
-
--- src/lib.rt:131:5
 loop-again : tie.Need-loop-again Inv-loop μ-loop
-loop-again c = (
-  omega arith,
-  c .before .before .fill-pair .ensures
-      ∙ ap (λ (v : List ℕ). pairFilled v (c .before .before .before .before .before .before .before .args .m) (c .before .before .before .before .before .loop .k)) (c .before .before .before .before .before .loop .inv .1)
-      ∙ pairs-next (c .before .before .before .before .before .before .before .args .work .now) (c .before .before .before .before .before .before .before .args .m) (c .before .before .before .before .before .loop .k),
-)
+loop-again c =
+    let l = c .before .before .before .before .before in
+    let a = l .before .before in (
+      omega arith,
+      c .before .before .fill-pair .ensures
+          ∙ ap (λ (v : List ℕ). pairFilled v (a .args .m) (l .loop .k)) (l .loop .inv .1)
+          ∙ pairs-next (a .args .work .now) (a .args .m) (l .loop .k),
+    )
 
--- src/lib.rt:126:1
 same-length : tie.Need-same-length Inv-loop μ-loop
 same-length c = ap length (c .before .loop .inv .1) ∙ (pairs-only (c .before .before .before .args .work .now) (c .before .before .before .args .m) (c .before .loop .k)) .size
 
--- src/lib.rt:126:1
 returns : tie.Need-returns Inv-loop μ-loop
 returns c = c .before .loop .inv .1 ∙ ap (pairsFilled (c .before .before .before .args .work .now) (c .before .before .before .args .m)) (omega arith)
 
 pub fill-row-spec : {M : Type 1} → statement M
-fill-row-spec =
-    tie.close
-    (tie.spec
-    Inv-loop
-    μ-loop
-    loop-holds
-    fill-pair-requires
-    add-k
-    loop-less
-    loop-again
-    same-length
-    returns)
+fill-row-spec = tie.close (tie.spec Inv-loop μ-loop loop-holds fill-pair-requires add-k (λ c. omega arith) loop-again
+    same-length returns)

@@ -8,15 +8,6 @@ use borrow.Author.Needs.{needs}
 use Rattle.fit.proofs.match_at.Statement.{statement}
 use Rattle.fit.proofs.match_at.Tie as tie
 
--- src/lib.rt:75:9
-member-requires : tie.Need-member-requires
-member-requires c κs = search needs
-
--- src/lib.rt:76:9
-member-requires-2 : tie.Need-member-requires-2
-member-requires-2 c κs = search needs
-
--- src/lib.rt:77:5
 both-match-requires : tie.Need-both-match-requires
 both-match-requires c κs =
     let x = c .before .member .ensures in
@@ -28,11 +19,10 @@ both-match-requires c κs =
       r .size,
     )
 
--- src/lib.rt:71:1
 returns : tie.Need-returns
 returns c =
     subst (λ (v : Member). BothMatch (c .before .before .before .before .args .work .now) v (memberIn (c .before .before .before .before .args .work .now) (c .before .before .before .before .args .k) (c .before .before .before .before .args .j)) (c .both-match .result)) (c .before .before .member .ensures)
     (subst (λ (v : Member). BothMatch (c .before .before .before .before .args .work .now) (c .before .before .member .result) v (c .both-match .result)) (c .before .member2 .ensures) (c .both-match .ensures))
 
 pub match-at-spec : {M : Type 1} → statement M
-match-at-spec = tie.close (tie.spec member-requires member-requires-2 both-match-requires returns)
+match-at-spec = tie.close (tie.spec (λ c κs. search needs) (λ c κs. search needs) both-match-requires returns)

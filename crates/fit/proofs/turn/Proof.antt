@@ -5,15 +5,12 @@ use Rattle.fit.proofs.BitLaws.{bits-turned}
 use Rattle.fit.proofs.turn.Statement.{statement}
 use Rattle.fit.proofs.turn.Tie as tie
 
--- src/lib.rt:145:9
 returns : tie.Need-returns
 returns c = sym (ap (λ (n : ℕ). twoBits (secondBit n) (firstBit n)) (c .if1 .taken))
 
--- src/lib.rt:148:9
 returns-2 : tie.Need-returns-2
 returns-2 c = sym (ap (λ (n : ℕ). twoBits (secondBit n) (firstBit n)) (c .if2 .taken))
 
--- src/lib.rt:140:1
 returns-3 : tie.Need-returns-3
 returns-3 c = bits-turned (c .before .before .args .said) (c .before .before .pre) (c .before .if1 .left) (c .if2 .left)
 

@@ -9,11 +9,6 @@ use Rattle.table.proofs.SheetLaws.{member-row-small, member-small, member-there
 use Rattle.form_typing.proofs.HeadLaws.{field-next, field-hit, field-end}
 use Rattle.form_typing.proofs.has_field.Statement.{statement}
 use Rattle.form_typing.proofs.has_field.Tie as tie
-use Rattle.form_typing.proofs.has_field.Reads as reads
-use Rattle.form_typing.proofs.has_field.Lts as lts
-use Rattle.form_typing.proofs.is_field.Reads as is-field-reads
-use Rattle.table.proofs.rows.member.Reads as member-reads
-use Rattle.table.proofs.rows.members_at.Reads as members-at-reads
 
 abbrev Inv-loop : tie.InvT-loop
 Inv-loop work a count j₀ j = hasField (drop j (membersAt (sheetIn work) a)) ≡ hasField (membersAt (sheetIn work) a)
@@ -21,25 +16,17 @@ Inv-loop work a count j₀ j = hasField (drop j (membersAt (sheetIn work) a)) �
 abbrev μ-loop : tie.MeasureT-loop
 μ-loop work a count j₀ j = count - j
 
--- src/lib.rt:161:9
 members-at-requires : tie.Need-members-at-requires Inv-loop μ-loop
 members-at-requires c κs = (c .before .pre)
 
--- src/lib.rt:163:5
 loop-holds : tie.Need-loop-holds Inv-loop μ-loop
 loop-holds c = refl
 
--- src/lib.rt:164:21
 member-requires : tie.Need-member-requires Inv-loop μ-loop
 member-requires c κs =
     let k : (c .before .loop .j) < length (membersAt (sheetIn (c .before .before .before .before .args .work .now)) (c .before .before .before .before .args .a)) = omega (arith, c .loop-test .taken, c .before .before .members-at .ensures .0) in
     (member-row-small (c .before .before .before .before .args .work .now) (c .before .before .before .before .pre) (c .before .before .before .before .args .a) (c .before .loop .j) k, member-small (c .before .before .before .before .args .work .now) (c .before .before .before .before .pre) (c .before .before .before .before .args .a) (c .before .loop .j) k, (c .before .before .before .before .pre) .size)
 
--- src/lib.rt:164:12
-is-field-requires : tie.Need-is-field-requires Inv-loop μ-loop
-is-field-requires c κs = search needs
-
--- src/lib.rt:165:13
 returns : tie.Need-returns Inv-loop μ-loop
 returns c =
     let b = c .before .before .before .before .before .before .before in
@@ -48,15 +35,6 @@ returns c =
     let k : j < length (membersAt (sheetIn (b .args .work .now)) (b .args .a)) = omega (arith, c .before .before .before .loop-test .taken, loop .before .members-at .ensures .0) in
     field-hit (membersAt (sheetIn (b .args .work .now)) (b .args .a)) j (loop .loop .inv) k (c .before .before .member .ensures ∙ sym (member-there (b .args .work .now) (b .pre) (b .args .a) j k)) (sym (c .before .is-field .ensures) ∙ c .if1 .taken)
 
--- src/lib.rt:167:13
-add-j : tie.Need-add-j Inv-loop μ-loop
-add-j c = omega arith
-
--- src/lib.rt:163:5
-loop-less : tie.Need-loop-less Inv-loop μ-loop
-loop-less c = omega arith
-
--- src/lib.rt:163:5
 loop-again : tie.Need-loop-again Inv-loop μ-loop
 loop-again c =
     let b = c .before .before .before .before .before .before .before in
@@ -65,7 +43,6 @@ loop-again c =
     let k : j < length (membersAt (sheetIn (b .args .work .now)) (b .args .a)) = omega (arith, c .before .before .before .loop-test .taken, loop .before .members-at .ensures .0) in
     field-next (membersAt (sheetIn (b .args .work .now)) (b .args .a)) j (loop .loop .inv) k (c .before .before .member .ensures ∙ sym (member-there (b .args .work .now) (b .pre) (b .args .a) j k)) (sym (c .before .is-field .ensures) ∙ c .if1 .left)
 
--- src/lib.rt:157:1
 returns-2 : tie.Need-returns-2 Inv-loop μ-loop
 returns-2 c = field-end (membersAt (sheetIn (c .before .before .before .before .args .work .now)) (c .before .before .before .before .args .a)) (c .before .loop .j) (c .before .loop .inv) (omega (arith, c .loop-test .left, c .before .before .members-at .ensures .0))
 
@@ -73,14 +50,5 @@ pub has-field-spec : {M : Type 1} → statement M
 has-field-spec =
     tie.close
     (tie.spec
-    Inv-loop
-    μ-loop
-    members-at-requires
-    loop-holds
-    member-requires
-    is-field-requires
-    returns
-    add-j
-    loop-less
-    loop-again
+    Inv-loop μ-loop members-at-requires loop-holds member-requires (λ c κs. search needs) returns (λ c. omega arith) (λ c. omega arith) loop-again
     returns-2)

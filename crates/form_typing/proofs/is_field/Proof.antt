@@ -5,26 +5,15 @@ use Rattle.type_rules.specs.Typing.{hasField}
 use borrow.Author.Needs.{needs}
 use Rattle.form_typing.proofs.is_field.Statement.{statement}
 use Rattle.form_typing.proofs.is_field.Tie as tie
-use Rattle.form_typing.proofs.is_field.Reads as reads
-use Rattle.form_typing.proofs.is_field.Lts as lts
 
--- src/lib.rt:151:34
-enum-told : tie.Need-enum-told
-enum-told c = search needs
-
--- src/lib.rt:152:33
-enum-told-2 : tie.Need-enum-told-2
-enum-told-2 c = search needs
-
--- src/lib.rt:147:1
 returns : tie.Need-returns
 unfolding hasField
 returns c = sym (ap (λ (x : Member). hasField (x ∷ [])) (c .enum-told .given .1))
 
--- src/lib.rt:147:1
 returns-2 : tie.Need-returns-2
 unfolding hasField
 returns-2 c = sym (ap (λ (x : Member). hasField (x ∷ [])) (c .enum-told2 .given .1))
 
 pub is-field-spec : {M : Type 1} → statement M
-is-field-spec = tie.close (tie.spec enum-told enum-told-2 returns returns-2)
+is-field-spec = tie.close
+    (tie.spec (λ c. search needs) (λ c. search needs) returns returns-2)

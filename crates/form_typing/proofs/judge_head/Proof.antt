@@ -10,20 +10,7 @@ use Rattle.code_typing.proofs.WalkLaws.{line-good, line-bad}
 use borrow.Author.Needs.{needs}
 use Rattle.form_typing.proofs.judge_head.Statement.{statement}
 use Rattle.form_typing.proofs.judge_head.Tie as tie
-use Rattle.form_typing.proofs.judge_head.Reads as reads
-use Rattle.form_typing.proofs.judge_head.Lts as lts
-use Rattle.form_typing.proofs.has_field.Reads as has-field-reads
-use Rattle.form_typing.proofs.is_pure.Reads as is-pure-reads
 
--- src/lib.rt:177:9
-is-pure-requires : tie.Need-is-pure-requires
-is-pure-requires c κs = search needs
-
--- src/lib.rt:178:35
-add-t6 : tie.Need-add-t6
-add-t6 c = search needs
-
--- src/lib.rt:178:9
 returns : tie.Need-returns
 returns c =
     let b = c .before .before .before in
@@ -31,11 +18,6 @@ returns c =
     line-good (b .args .line) ImpureForm (not (isPure ((rowAt ((sheetIn (b .args .work .now)) .rows) a) .kind) && hasField (membersAt (sheetIn (b .args .work .now)) a)))
     (neither (hasField (membersAt (sheetIn (b .args .work .now)) a)) (sym (c .before .is-pure .ensures) ∙ not-true (c .before .is-pure .result) (c .if1 .taken)))
 
--- src/lib.rt:180:8
-has-field-requires : tie.Need-has-field-requires
-has-field-requires c κs = search needs
-
--- src/lib.rt:181:9
 returns-2 : tie.Need-returns-2
 returns-2 c =
     let b = c .before .before .before .before .before in
@@ -43,11 +25,6 @@ returns-2 c =
     line-bad (b .args .line) ImpureForm (not (isPure ((rowAt ((sheetIn (b .args .work .now)) .rows) a) .kind) && hasField (membersAt (sheetIn (b .args .work .now)) a)))
     (both (sym (c .before .before .before .is-pure .ensures) ∙ not-false (c .before .before .before .is-pure .result) (c .before .before .if1 .left)) (sym (c .before .has-field .ensures) ∙ c .if2 .taken))
 
--- src/lib.rt:186:24
-add-t9 : tie.Need-add-t9
-add-t9 c = search needs
-
--- src/lib.rt:173:1
 returns-3 : tie.Need-returns-3
 returns-3 c =
     let b = c .before .before .before .before .before in
@@ -58,4 +35,4 @@ returns-3 c =
 pub judge-head-spec : {M : Type 1} → statement M
 judge-head-spec =
     tie.close
-    (tie.spec is-pure-requires add-t6 returns has-field-requires returns-2 add-t9 returns-3)
+    (tie.spec (λ c κs. search needs) (λ c. search needs) returns (λ c κs. search needs) returns-2 (λ c. search needs) returns-3)

@@ -10,14 +10,6 @@ use Rattle.table.proofs.SheetLaws.{member-row-small, member-small, forms-few}
 use Rattle.form_typing.proofs.PartsLaws.{PartsGoing, parts-start, parts-whole, parts-small, parts-end, parts-stop, parts-next}
 use Rattle.form_typing.proofs.judge_parts.Statement.{statement}
 use Rattle.form_typing.proofs.judge_parts.Tie as tie
-use Rattle.form_typing.proofs.judge_parts.Reads as reads
-use Rattle.form_typing.proofs.judge_parts.Lts as lts
-use Rattle.form_typing.proofs.judge_part.Reads as judge-part-reads
-use Rattle.table.proofs.forms.form_row.Reads as form-row-reads
-use Rattle.table.proofs.forms.part.Reads as part-reads
-use Rattle.table.proofs.rows.member.Reads as member-reads
-use Rattle.table.proofs.rows.members_at.Reads as members-at-reads
-use Rattle.table.proofs.rows.wide.Reads as wide-reads
 
 abbrev Inv-loop : tie.InvT-loop
 Inv-loop work₀ f first row count j₀ line₀ work j line = PartsGoing f first work₀ work j line
@@ -25,23 +17,15 @@ Inv-loop work₀ f first row count j₀ line₀ work j line = PartsGoing f first
 abbrev μ-loop : tie.MeasureT-loop
 μ-loop work₀ f first row count j₀ line₀ work j line = count - j
 
--- src/lib.rt:118:20
 form-row-requires : tie.Need-form-row-requires Inv-loop μ-loop
 form-row-requires c κs = (c .before .before .pre .0)
 
--- src/lib.rt:118:9
-wide-requires : tie.Need-wide-requires Inv-loop μ-loop
-wide-requires c κs = search needs
-
--- src/lib.rt:119:9
 members-at-requires : tie.Need-members-at-requires Inv-loop μ-loop
 members-at-requires c κs = let b = c .before .before .before .before .before in b .pre .0
 
--- src/lib.rt:122:5
 loop-holds : tie.Need-loop-holds Inv-loop μ-loop
 loop-holds c = parts-start
 
--- src/lib.rt:123:13
 member-requires : tie.Need-member-requires Inv-loop μ-loop
 member-requires c κs =
     let row = c .before .before .before .before .before in
@@ -51,7 +35,6 @@ member-requires c κs =
     let k : j < length (membersAt (sheetIn w) (row .wide .result)) = omega (arith, c .before .loop-test .taken, c .before .before .before .members-at .ensures .0) in
     (member-row-small w whole (row .wide .result) j k, member-small w whole (row .wide .result) j k, omega (arith, c .before .before .loop .inv .only .size, whole .size))
 
--- src/lib.rt:124:13
 part-requires : tie.Need-part-requires Inv-loop μ-loop
 part-requires c κs =
     let count = c .before .before .before .before .before in
@@ -63,7 +46,6 @@ part-requires c κs =
     let k : j < length (membersAt (sheetIn w) (row .wide .result)) = omega (arith, c .before .before .before .loop-test .taken, count .members-at .ensures .0) in
     (omega (arith, b .pre .1, forms-few w whole), member-small w whole (row .wide .result) j k, omega (arith, c .before .before .before .before .loop .inv .only .size, whole .size))
 
--- src/lib.rt:125:13
 judge-part-requires : tie.Need-judge-part-requires Inv-loop μ-loop
 judge-part-requires c κs =
     let loop = c .before .before .before .before .before .before in
@@ -78,21 +60,11 @@ judge-part-requires c κs =
       omega (arith, going .lined, b .pre .2, test .loop-test .taken, count .1),
     )
 
--- src/lib.rt:126:32
-enum-known-r : tie.Need-enum-known-r Inv-loop μ-loop
-enum-known-r c = search needs
-
--- src/lib.rt:127:13
-enum-told : tie.Need-enum-told Inv-loop μ-loop
-enum-told c = search needs
-
--- src/lib.rt:127:13
 same-length : tie.Need-same-length Inv-loop μ-loop
 same-length c =
     let b = c .before .before .before .before .before .before .before .before .before .before .before in
     c .before .before .before .before .judge-part .ensures .only .size ∙ b .loop .inv .only .size
 
--- src/lib.rt:127:13
 returns : tie.Need-returns Inv-loop μ-loop
 returns c =
     let part = c .before .before .before .before in
@@ -101,15 +73,6 @@ returns c =
     let b = row .before .before .before .before in
     parts-stop (test .before .loop .inv) (b .pre .0) (row .wide .ensures ∙ row .before .form-row .ensures) (test .before .before .members-at .ensures .0) (b .pre .1) (test .loop-test .taken) (part .before .before .before .before .member .ensures) (part .before .before .part .result) (part .before .before .part .ensures) (part .judge-part .ensures) (c .enum-told .given .1)
 
--- src/lib.rt:130:13
-add-j : tie.Need-add-j Inv-loop μ-loop
-add-j c = omega arith
-
--- src/lib.rt:122:5
-loop-less : tie.Need-loop-less Inv-loop μ-loop
-loop-less c = omega arith
-
--- src/lib.rt:122:5
 loop-again : tie.Need-loop-again Inv-loop μ-loop
 loop-again c =
     let part = c .before .before .before .before .before in
@@ -118,11 +81,9 @@ loop-again c =
     let b = row .before .before .before .before in
     parts-next (test .before .loop .inv) (b .pre .0) (row .wide .ensures ∙ row .before .form-row .ensures) (test .before .before .members-at .ensures .0) (b .pre .1) (test .loop-test .taken) (part .before .before .before .before .member .ensures) (part .before .before .part .result) (part .before .before .part .ensures) (part .judge-part .ensures) (c .before .r .given .1)
 
--- src/lib.rt:114:1
 same-length-2 : tie.Need-same-length-2 Inv-loop μ-loop
 same-length-2 c = (c .before .loop .inv) .only .size
 
--- src/lib.rt:114:1
 returns-2 : tie.Need-returns-2 Inv-loop μ-loop
 returns-2 c =
     let row = c .before .before .before .before in
@@ -133,21 +94,5 @@ pub judge-parts-spec : {M : Type 1} → statement M
 judge-parts-spec =
     tie.close
     (tie.spec
-    Inv-loop
-    μ-loop
-    form-row-requires
-    wide-requires
-    members-at-requires
-    loop-holds
-    member-requires
-    part-requires
-    judge-part-requires
-    enum-known-r
-    enum-told
-    same-length
-    returns
-    add-j
-    loop-less
-    loop-again
-    same-length-2
-    returns-2)
+    Inv-loop μ-loop form-row-requires (λ c κs. search needs) members-at-requires loop-holds member-requires part-requires judge-part-requires
+    (λ c. search needs) (λ c. search needs) same-length returns (λ c. omega arith) (λ c. omega arith) loop-again same-length-2 returns-2)

@@ -8,23 +8,15 @@ use Rattle.form_typing.proofs.HeadLaws.{neither, not-not}
 use borrow.Author.Needs.{needs}
 use Rattle.form_typing.proofs.may_keep.Statement.{statement}
 use Rattle.form_typing.proofs.may_keep.Tie as tie
-use Rattle.form_typing.proofs.may_keep.Reads as reads
-use Rattle.form_typing.proofs.may_keep.Lts as lts
-use Rattle.form_typing.proofs.is_pure.Reads as is-pure-reads
 
--- src/lib.rt:195:9
 returns : tie.Need-returns
 returns c = sym (neither (not (isPure ((rowAt ((sheetIn (c .before .before .args .work .now)) .rows) (c .before .before .args .k)) .kind))) (not-true (c .before .before .args .pure) (c .if1 .taken)))
 
--- src/lib.rt:197:5
-is-pure-requires : tie.Need-is-pure-requires
-is-pure-requires c κs = search needs
-
--- src/lib.rt:190:1
 returns-2 : tie.Need-returns-2
 returns-2 c =
     c .is-pure .ensures ∙ sym (not-not (isPure ((rowAt ((sheetIn (c .before .before .before .args .work .now)) .rows) (c .before .before .before .args .k)) .kind)))
     ∙ ap (λ (p : Bool). not (p && not (isPure ((rowAt ((sheetIn (c .before .before .before .args .work .now)) .rows) (c .before .before .before .args .k)) .kind)))) (sym (not-false (c .before .before .before .args .pure) (c .before .if1 .left)))
 
 pub may-keep-spec : {M : Type 1} → statement M
-may-keep-spec = tie.close (tie.spec returns is-pure-requires returns-2)
+may-keep-spec = tie.close
+    (tie.spec returns (λ c κs. search needs) returns-2)

@@ -3,12 +3,10 @@ use Rattle.instr_judge.specs.Named.{existIn}
 use Rattle.instr_judge.proofs.call_exists.Statement.{statement}
 use Rattle.instr_judge.proofs.call_exists.Tie as tie
 
--- src/lib.rt:116:9
 returns : tie.Need-returns
 unfolding existIn
 returns c = simp (lt-ltb _ _ (c .before .if1 .taken))
 
--- src/lib.rt:112:1
 returns-2 : tie.Need-returns-2
 unfolding existIn
 returns-2 c = simp (le-ltb _ _ (c .if1 .left))

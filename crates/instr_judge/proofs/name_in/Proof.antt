@@ -5,47 +5,22 @@ use borrow.Author.Needs.{needs}
 use Rattle.instr_judge.proofs.name_in.Statement.{statement}
 use Rattle.instr_judge.proofs.name_in.Tie as tie
 
--- src/lib.rt:23:27
-enum-told : tie.Need-enum-told
-enum-told c = search needs
-
--- src/lib.rt:24:28
-enum-told-2 : tie.Need-enum-told-2
-enum-told-2 c = search needs
-
--- src/lib.rt:25:27
-enum-told-3 : tie.Need-enum-told-3
-enum-told-3 c = search needs
-
--- src/lib.rt:26:27
-enum-told-4 : tie.Need-enum-told-4
-enum-told-4 c = search needs
-
--- src/lib.rt:27:28
-enum-told-5 : tie.Need-enum-told-5
-enum-told-5 c = search needs
-
--- src/lib.rt:19:1
 returns : tie.Need-returns
 unfolding nameIn
 returns c = sym (ap (λ (o : Operation). nameIn o (c .before .before .args .numbers)) (c .enum-told .given .1))
 
--- src/lib.rt:19:1
 returns-2 : tie.Need-returns-2
 unfolding nameIn
 returns-2 c = sym (ap (λ (o : Operation). nameIn o (c .before .before .args .numbers)) (c .enum-told2 .given .1))
 
--- src/lib.rt:19:1
 returns-3 : tie.Need-returns-3
 unfolding nameIn
 returns-3 c = sym (ap (λ (o : Operation). nameIn o (c .before .before .args .numbers)) (c .enum-told3 .given .1))
 
--- src/lib.rt:19:1
 returns-4 : tie.Need-returns-4
 unfolding nameIn
 returns-4 c = sym (ap (λ (o : Operation). nameIn o (c .before .before .args .numbers)) (c .enum-told4 .given .1))
 
--- src/lib.rt:19:1
 returns-5 : tie.Need-returns-5
 unfolding nameIn
 returns-5 c = sym (ap (λ (o : Operation). nameIn o (c .before .before .args .numbers)) (c .enum-told5 .given .1))
@@ -54,13 +29,5 @@ pub name-in-spec : {M : Type 1} → statement M
 name-in-spec =
     tie.close
     (tie.spec
-    enum-told
-    enum-told-2
-    enum-told-3
-    enum-told-4
-    enum-told-5
-    returns
-    returns-2
-    returns-3
-    returns-4
+    (λ c. search needs) (λ c. search needs) (λ c. search needs) (λ c. search needs) (λ c. search needs) returns returns-2 returns-3 returns-4
     returns-5)

@@ -3,12 +3,10 @@ use Rattle.instr_judge.specs.Named.{slotOk}
 use Rattle.instr_judge.proofs.slot_ok.Statement.{statement}
 use Rattle.instr_judge.proofs.slot_ok.Tie as tie
 
--- src/lib.rt:65:9
 returns : tie.Need-returns
 unfolding slotOk
 returns c = simp (le-leb _ _ (c .if1 .taken))
 
--- src/lib.rt:61:1
 returns-2 : tie.Need-returns-2
 unfolding slotOk
 returns-2 c = simp (lt-leb _ _ (c .if1 .left))

@@ -6,31 +6,6 @@ use borrow.Author.Needs.{needs}
 use Rattle.instr_reader.proofs.store_tail.Statement.{statement}
 use Rattle.instr_reader.proofs.store_tail.Tie as tie
 
--- src/lib.rt:35:5
-put-number-requires : tie.Need-put-number-requires
-put-number-requires c κs = search needs
-
--- src/lib.rt:36:5
-put-number-requires-2 : tie.Need-put-number-requires-2
-put-number-requires-2 c κs = search needs
-
--- src/lib.rt:37:5
-put-number-requires-3 : tie.Need-put-number-requires-3
-put-number-requires-3 c κs = search needs
-
--- src/lib.rt:38:5
-put-number-requires-4 : tie.Need-put-number-requires-4
-put-number-requires-4 c κs = search needs
-
--- src/lib.rt:39:5
-put-number-requires-5 : tie.Need-put-number-requires-5
-put-number-requires-5 c κs = search needs
-
--- src/lib.rt:31:1
-same-length : tie.Need-same-length
-same-length c = search needs
-
--- src/lib.rt:31:1
 returns : tie.Need-returns
 returns c =
     let fifth = c .before .before in
@@ -52,10 +27,4 @@ pub store-tail-spec : {M : Type 1} → statement M
 store-tail-spec =
     tie.close
     (tie.spec
-    put-number-requires
-    put-number-requires-2
-    put-number-requires-3
-    put-number-requires-4
-    put-number-requires-5
-    same-length
-    returns)
+    (λ c κs. search needs) (λ c κs. search needs) (λ c κs. search needs) (λ c κs. search needs) (λ c κs. search needs) (λ c. search needs) returns)

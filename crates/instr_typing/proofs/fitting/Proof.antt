@@ -5,14 +5,10 @@ use Rattle.type_rules.specs.Typing.{unless}
 use Rattle.instr_typing.specs.Told.{judgedOf}
 use Rattle.instr_typing.proofs.fitting.Statement.{statement}
 use Rattle.instr_typing.proofs.fitting.Tie as tie
-use Rattle.instr_typing.proofs.fitting.Reads as reads
-use Rattle.instr_typing.proofs.fitting.Lts as lts
 
--- src/lib.rt:132:9
 returns : tie.Need-returns
 returns c = sym (ap (λ (b : Bool). judgedOf (unless b Misfit) (c .before .args .row)) (c .if1 .taken))
 
--- src/lib.rt:128:1
 returns-2 : tie.Need-returns-2
 returns-2 c = sym (ap (λ (b : Bool). judgedOf (unless b Misfit) (c .before .args .row)) (c .if1 .left))
 

@@ -3,13 +3,11 @@ use borrow.Author.Needs.{needs}
 use Rattle.keep_reader.proofs.read_keep.Statement.{statement}
 use Rattle.keep_reader.proofs.read_keep.Tie as tie
 
--- src/lib.rt:26:9
 returns : tie.Need-returns
 returns c =
     let p = c .before .before .before .before .before .before .args in
     keep-refused (p .f) (p .j) (p .work .now) (c .before .before .before .take-line .ensures) (c .before .enum-told .given .1) (c .stopped .ensures)
 
--- src/lib.rt:13:1
 returns-2 : tie.Need-returns-2
 returns-2 c =
     let read = c .before .before .before .before .before in

@@ -7,9 +7,6 @@ use Rattle.keep_reader.specs.Reads.{keepItems}
 use Rattle.keep_reader.proofs.KeepsLaws.{keep-turn}
 use Rattle.keep_reader.proofs.read_keeps.Statement.{statement}
 use Rattle.keep_reader.proofs.read_keeps.Tie as tie
-use Rattle.keep_reader.proofs.read_keeps.Reads as reads
-use Rattle.keep_reader.proofs.read_keeps.Lts as lts
-use Rattle.keep_reader.proofs.read_keep.Reads as read-keep-reads
 
 abbrev Inv-loop : tie.InvT-loop
 Inv-loop text work₀ f count rows j₀ here₀ work j here = Going text (keepItems f rows (here₀ .used)) count here₀ work₀ work j here
@@ -17,32 +14,20 @@ Inv-loop text work₀ f count rows j₀ here₀ work j here = Going text (keepIt
 abbrev μ-loop : tie.MeasureT-loop
 μ-loop text work₀ f count rows j₀ here₀ work j here = count - j
 
--- src/lib.rt:44:5
 loop-holds : tie.Need-loop-holds Inv-loop μ-loop
 loop-holds c = going-start (c .before .before .pre .0) refl
 
--- src/lib.rt:45:13
 read-keep-requires : tie.Need-read-keep-requires Inv-loop μ-loop
 read-keep-requires c κs =
     let p = c .before .before .before .before .before .pre in
     let g = c .before .before .loop .inv in
     (g .room, p .1, omega (arith, p .2, c .before .loop-test .taken), omega (arith, p .3, g .only .size))
 
--- src/lib.rt:46:31
-enum-known-r : tie.Need-enum-known-r Inv-loop μ-loop
-enum-known-r c = search needs
-
--- src/lib.rt:47:13
-enum-told : tie.Need-enum-told Inv-loop μ-loop
-enum-told c = search needs
-
--- src/lib.rt:47:13
 same-length : tie.Need-same-length Inv-loop μ-loop
 same-length c =
     let turn = c .before .before .before .before in
     turn .read-keep .ensures .only .size ∙ turn .before .before .before .loop .inv .only .size
 
--- src/lib.rt:47:13
 returns : tie.Need-returns Inv-loop μ-loop
 returns c =
     let turn = c .before .before .before .before in
@@ -51,15 +36,6 @@ returns c =
     let l = turn .before .before .loop-test .taken in
     going-stop (loop .loop .inv) l (c .enum-told .given .1) (keep-turn (p .args .f) (p .args .rows) (loop .loop .inv) (p .pre .2) l (turn .read-keep .ensures))
 
--- src/lib.rt:50:13
-add-j : tie.Need-add-j Inv-loop μ-loop
-add-j c = omega arith
-
--- src/lib.rt:44:5
-loop-less : tie.Need-loop-less Inv-loop μ-loop
-loop-less c = omega arith
-
--- src/lib.rt:44:5
 loop-again : tie.Need-loop-again Inv-loop μ-loop
 loop-again c =
     let turn = c .before .before .before .before .before in
@@ -68,11 +44,9 @@ loop-again c =
     let l = turn .before .before .loop-test .taken in
     going-next (loop .loop .inv) l (c .before .r .given .1) (keep-turn (p .args .f) (p .args .rows) (loop .loop .inv) (p .pre .2) l (turn .read-keep .ensures))
 
--- src/lib.rt:31:1
 same-length-2 : tie.Need-same-length-2 Inv-loop μ-loop
 same-length-2 c = c .before .loop .inv .only .size
 
--- src/lib.rt:31:1
 returns-2 : tie.Need-returns-2 Inv-loop μ-loop
 returns-2 c = going-end (c .before .loop .inv) (omega arith)
 
@@ -80,16 +54,5 @@ pub read-keeps-spec : {M : Type 1} → statement M
 read-keeps-spec =
     tie.close
     (tie.spec
-    Inv-loop
-    μ-loop
-    loop-holds
-    read-keep-requires
-    enum-known-r
-    enum-told
-    same-length
-    returns
-    add-j
-    loop-less
-    loop-again
-    same-length-2
-    returns-2)
+    Inv-loop μ-loop loop-holds read-keep-requires (λ c. search needs) (λ c. search needs) same-length returns (λ c. omega arith) (λ c. omega arith)
+    loop-again same-length-2 returns-2)

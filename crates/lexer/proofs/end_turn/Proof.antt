@@ -2,15 +2,12 @@ use borrow.Author.Tests.{eq-eqb, ne-eqb}
 use Rattle.lexer.proofs.end_turn.Statement.{statement}
 use Rattle.lexer.proofs.end_turn.Tie as tie
 
--- src/lib.rt:60:9
 returns : tie.Need-returns
 returns c = simp (eq-eqb _ _ (c .if1 .taken))
 
--- src/lib.rt:63:9
 returns-2 : tie.Need-returns-2
 returns-2 c = simp (ne-eqb _ _ (c .before .if1 .left), eq-eqb _ _ (c .if2 .taken))
 
--- src/lib.rt:56:1
 returns-3 : tie.Need-returns-3
 returns-3 c = simp (ne-eqb _ _ (c .before .if1 .left), ne-eqb _ _ (c .if2 .left))
 

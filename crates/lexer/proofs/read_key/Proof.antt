@@ -14,59 +14,24 @@ Inv-loop text from at₀ code₀ at code = (at ≤ length text) × (code < 14348
 abbrev μ-loop : tie.MeasureT-loop
 μ-loop text from at₀ code₀ at code = length text - at
 
--- src/lib.rt:212:5
 loop-holds : tie.Need-loop-holds Inv-loop μ-loop
 loop-holds c = (c .pre, omega arith, refl)
 
--- src/lib.rt:213:20
-shared-slice-read-byte : tie.Need-shared-slice-read-byte Inv-loop μ-loop
-shared-slice-read-byte c = omega arith
-
--- src/lib.rt:214:14
-add-at : tie.Need-add-at Inv-loop μ-loop
-add-at c = omega arith
-
--- src/lib.rt:216:13
 returns : tie.Need-returns Inv-loop μ-loop
 returns c = sym (simp (eq-eqb _ _ (c .if1 .taken)) at (key-next (c .before .before .before .before .args .text .now) (c .before .before .before .loop .code) (c .before .before .before .loop .at) (c .before .before .loop-test .taken))) ∙ c .before .before .before .loop .inv .2
 
--- src/lib.rt:219:13
 returns-2 : tie.Need-returns-2 Inv-loop μ-loop
 returns-2 c = sym (simp (ne-eqb _ _ (c .before .if1 .left), lt-ltb _ _ (c .if2 .taken)) at (key-next (c .before .before .before .before .before .args .text .now) (c .before .before .before .before .loop .code) (c .before .before .before .before .loop .at) (c .before .before .before .loop-test .taken))) ∙ c .before .before .before .before .loop .inv .2
 
--- src/lib.rt:222:13
 returns-3 : tie.Need-returns-3 Inv-loop μ-loop
 returns-3 c = sym (simp (ne-eqb _ _ (c .before .before .if1 .left), le-ltb _ _ (c .before .if2 .left), lt-ltb _ _ (c .if3 .taken)) at (key-next (c .before .before .before .before .before .before .args .text .now) (c .before .before .before .before .before .loop .code) (c .before .before .before .before .before .loop .at) (c .before .before .before .before .loop-test .taken))) ∙ c .before .before .before .before .before .loop .inv .2
 
--- src/lib.rt:225:13
 returns-4 : tie.Need-returns-4 Inv-loop μ-loop
 returns-4 c = sym (simp (ne-eqb _ _ (c .before .before .before .if1 .left), le-ltb _ _ (c .before .before .if2 .left), le-ltb _ _ (c .before .if3 .left), le-ltb _ _ (c .if4 .taken)) at (key-next (c .before .before .before .before .before .before .before .args .text .now) (c .before .before .before .before .before .before .loop .code) (c .before .before .before .before .before .before .loop .at) (c .before .before .before .before .before .loop-test .taken))) ∙ c .before .before .before .before .before .before .loop .inv .2
 
--- src/lib.rt:227:16
-mul-code : tie.Need-mul-code Inv-loop μ-loop
-mul-code c = omega arith
-
--- src/lib.rt:227:29
-sub-code : tie.Need-sub-code Inv-loop μ-loop
-sub-code c = omega arith
-
--- src/lib.rt:227:28
-cast-code : tie.Need-cast-code Inv-loop μ-loop
-cast-code c = omega arith
-
--- src/lib.rt:227:16
-add-code : tie.Need-add-code Inv-loop μ-loop
-add-code c = omega arith
-
--- src/lib.rt:212:5
-loop-less : tie.Need-loop-less Inv-loop μ-loop
-loop-less c = omega arith
-
--- src/lib.rt:212:5
 loop-again : tie.Need-loop-again Inv-loop μ-loop
 loop-again c = (omega arith, omega arith, sym (simp (ne-eqb _ _ (c .before .before .before .if1 .left), le-ltb _ _ (c .before .before .if2 .left), le-ltb _ _ (c .before .if3 .left), lt-ltb _ _ (c .if4 .left)) at (key-next (c .before .before .before .before .before .before .before .args .text .now) (c .before .before .before .before .before .before .loop .code) (c .before .before .before .before .before .before .loop .at) (c .before .before .before .before .before .loop-test .taken))) ∙ c .before .before .before .before .before .before .loop .inv .2)
 
--- src/lib.rt:206:1
 returns-5 : tie.Need-returns-5 Inv-loop μ-loop
 returns-5 c = sym (key-end (c .before .before .args .text .now) (c .before .loop .code) (c .before .loop .at) (omega arith)) ∙ c .before .loop .inv .2
 
@@ -74,19 +39,5 @@ pub read-key-spec : {M : Type 1} → statement M
 read-key-spec =
     tie.close
     (tie.spec
-    Inv-loop
-    μ-loop
-    loop-holds
-    shared-slice-read-byte
-    add-at
-    returns
-    returns-2
-    returns-3
-    returns-4
-    mul-code
-    sub-code
-    cast-code
-    add-code
-    loop-less
-    loop-again
-    returns-5)
+    Inv-loop μ-loop loop-holds (λ c. omega arith) (λ c. omega arith) returns returns-2 returns-3 returns-4 (λ c. omega arith) (λ c. omega arith)
+    (λ c. omega arith) (λ c. omega arith) (λ c. omega arith) loop-again returns-5)

@@ -4,51 +4,21 @@ use borrow.Author.Needs.{needs}
 use Rattle.lexer.proofs.read_line.Statement.{statement}
 use Rattle.lexer.proofs.read_line.Tie as tie
 
--- src/lib.rt:243:43
-read-key-requires : tie.Need-read-key-requires
-read-key-requires c κs = search needs
-
--- src/lib.rt:243:28
-enum-known-code : tie.Need-enum-known-code
-enum-known-code c = search needs
-
--- src/lib.rt:244:9
-enum-told : tie.Need-enum-told
-enum-told c = search needs
-
--- src/lib.rt:244:9
 returns : tie.Need-returns
 returns c = sym (line-no-key (c .before .before .before .before .args .text .now) (c .before .before .before .before .args .from) (sym (c .before .before .read-key .ensures) ∙ c .enum-told .given .1))
 
--- src/lib.rt:249:9
 read-numbers-requires : tie.Need-read-numbers-requires
 read-numbers-requires c κs = key-within (c .before .before .before .before .before .args .text .now) (c .before .before .before .before .before .args .from) _ _ (c .before .before .before .before .before .pre) (sym (c .before .before .before .read-key .ensures) ∙ c .before .code .given .1)
 
--- src/lib.rt:247:9
-enum-known-numbers : tie.Need-enum-known-numbers
-enum-known-numbers c = search needs
-
--- src/lib.rt:251:9
-enum-told-2 : tie.Need-enum-told-2
-enum-told-2 c = search needs
-
--- src/lib.rt:251:9
 returns-2 : tie.Need-returns-2
 returns-2 c = sym (line-no-numbers (c .before .before .before .before .before .before .before .before .args .text .now) (c .before .before .before .before .before .before .before .before .args .from) _ _ (sym (c .before .before .before .before .before .before .read-key .ensures) ∙ c .before .before .before .before .code .given .1) (sym (c .before .before .read-numbers .ensures) ∙ c .enum-told2 .given .1))
 
--- src/lib.rt:253:9
-key-of-requires : tie.Need-key-of-requires
-key-of-requires c κs = search needs
-
--- src/lib.rt:256:9
 returns-3 : tie.Need-returns-3
 returns-3 c = sym (line-few (c .before .before .before .before .before .before .before .before .before .before .before .before .args .text .now) (c .before .before .before .before .before .before .before .before .before .before .before .before .args .from) _ _ _ _ (sym (c .before .before .before .before .before .before .before .before .before .before .read-key .ensures) ∙ c .before .before .before .before .before .before .before .before .code .given .1) (sym (c .before .before .before .before .before .before .read-numbers .ensures) ∙ c .before .before .before .before .numbers .given .1) (c .before .before .key-of .result) (c .before .before .key-of .ensures) (c .if1 .taken))
 
--- src/lib.rt:259:9
 returns-4 : tie.Need-returns-4
 returns-4 c = sym (line-many (c .before .before .before .before .before .before .before .before .before .before .before .before .before .before .args .text .now) (c .before .before .before .before .before .before .before .before .before .before .before .before .before .before .args .from) _ _ _ _ (sym (c .before .before .before .before .before .before .before .before .before .before .before .before .read-key .ensures) ∙ c .before .before .before .before .before .before .before .before .before .before .code .given .1) (sym (c .before .before .before .before .before .before .before .before .read-numbers .ensures) ∙ c .before .before .before .before .before .before .numbers .given .1) (c .before .before .before .before .key-of .result) (c .before .before .before .before .key-of .ensures) (c .before .before .if1 .left) (c .if2 .taken))
 
--- src/lib.rt:239:1
 returns-5 : tie.Need-returns-5
 returns-5 c = sym (line-fits (c .before .before .before .before .before .before .before .before .before .before .before .before .before .before .args .text .now) (c .before .before .before .before .before .before .before .before .before .before .before .before .before .before .args .from) _ _ _ _ (sym (c .before .before .before .before .before .before .before .before .before .before .before .before .read-key .ensures) ∙ c .before .before .before .before .before .before .before .before .before .before .code .given .1) (sym (c .before .before .before .before .before .before .before .before .read-numbers .ensures) ∙ c .before .before .before .before .before .before .numbers .given .1) (c .before .before .before .before .key-of .result) (c .before .before .before .before .key-of .ensures) (c .before .before .if1 .left) (c .if2 .left))
 
@@ -56,15 +26,5 @@ pub read-line-spec : {M : Type 1} → statement M
 read-line-spec =
     tie.close
     (tie.spec
-    read-key-requires
-    enum-known-code
-    enum-told
-    returns
-    read-numbers-requires
-    enum-known-numbers
-    enum-told-2
-    returns-2
-    key-of-requires
-    returns-3
-    returns-4
-    returns-5)
+    (λ c κs. search needs) (λ c. search needs) (λ c. search needs) returns read-numbers-requires (λ c. search needs) (λ c. search needs) returns-2
+    (λ c κs. search needs) returns-3 returns-4 returns-5)

@@ -21,11 +21,9 @@ Inv-loop text from at₀ part₀ numbers₀ at part numbers =
 abbrev μ-loop : tie.MeasureT-loop
 μ-loop text from at₀ part₀ numbers₀ at part numbers = length text - at
 
--- src/lib.rt:179:9
 none-requires : tie.Need-none-requires Inv-loop μ-loop
 none-requires c κs = tt
 
--- src/lib.rt:180:5
 loop-holds : tie.Need-loop-holds Inv-loop μ-loop
 loop-holds c = (
   c .before .before .pre,
@@ -34,27 +32,9 @@ loop-holds c = (
   ap (λ (ns : Numbers). numbersScan ns Part.Empty (c .before .before .args .from) (drop (c .before .before .args .from) (c .before .before .args .text .now))) (c .none .ensures),
 )
 
--- src/lib.rt:181:33
-shared-slice-read-byte-turn : tie.Need-shared-slice-read-byte-turn Inv-loop μ-loop
-shared-slice-read-byte-turn c = omega arith
-
--- src/lib.rt:181:13
 byte-turn-requires : tie.Need-byte-turn-requires Inv-loop μ-loop
 byte-turn-requires c κs = tt
 
--- src/lib.rt:182:14
-add-at : tie.Need-add-at Inv-loop μ-loop
-add-at c = omega arith
-
--- src/lib.rt:184:32
-enum-known-t : tie.Need-enum-known-t Inv-loop μ-loop
-enum-known-t c = search needs
-
--- src/lib.rt:180:5
-loop-less : tie.Need-loop-less Inv-loop μ-loop
-loop-less c = omega arith
-
--- src/lib.rt:180:5
 loop-again : tie.Need-loop-again Inv-loop μ-loop
 loop-again c = (
   omega arith,
@@ -63,23 +43,9 @@ loop-again c = (
   sym (numbers-more (c .before .before .before .before .before .before .before .before .before .args .text .now) (c .before .before .before .before .before .before .loop .numbers) (c .before .before .before .before .before .before .loop .part) (c .before .before .before .before .before .before .loop .at) (c .before .before .before .before .before .loop-test .taken) _ (sym (c .before .before .before .byte-turn .ensures) ∙ c .before .t .given .1)) ∙ c .before .before .before .before .before .before .loop .inv .3,
 )
 
--- src/lib.rt:187:27
-enum-known-t-2 : tie.Need-enum-known-t-2 Inv-loop μ-loop
-enum-known-t-2 c = search needs
-
--- src/lib.rt:190:21
 returns : tie.Need-returns Inv-loop μ-loop
 returns c = sym (numbers-full (c .before .before .before .before .before .before .before .before .before .before .args .text .now) (c .before .before .before .before .before .before .before .loop .numbers) (c .before .before .before .before .before .before .before .loop .part) (c .before .before .before .before .before .before .before .loop .at) (c .before .before .before .before .before .before .loop-test .taken) _ (sym (c .before .before .before .before .byte-turn .ensures) ∙ c .before .before .t2 .given .1) (c .if1 .taken)) ∙ c .before .before .before .before .before .before .before .loop .inv .3
 
--- src/lib.rt:192:17
-with-requires : tie.Need-with-requires Inv-loop μ-loop
-with-requires c κs = omega arith
-
--- src/lib.rt:180:5
-loop-less-2 : tie.Need-loop-less-2 Inv-loop μ-loop
-loop-less-2 c = omega arith
-
--- src/lib.rt:180:5
 loop-again-2 : tie.Need-loop-again-2 Inv-loop μ-loop
 unfolding withNumber
 loop-again-2 c = (
@@ -90,29 +56,14 @@ loop-again-2 c = (
       ∙ sym (numbers-comma (c .before .before .before .before .before .before .before .before .before .before .before .args .text .now) (c .before .before .before .before .before .before .before .before .loop .numbers) (c .before .before .before .before .before .before .before .before .loop .part) (c .before .before .before .before .before .before .before .before .loop .at) (c .before .before .before .before .before .before .before .loop-test .taken) _ (sym (c .before .before .before .before .before .byte-turn .ensures) ∙ c .before .before .before .t2 .given .1) (c .before .if1 .left)) ∙ c .before .before .before .before .before .before .before .before .loop .inv .3,
 )
 
--- src/lib.rt:195:25
-enum-known-t-3 : tie.Need-enum-known-t-3 Inv-loop μ-loop
-enum-known-t-3 c = search needs
-
--- src/lib.rt:197:30
-with-requires-2 : tie.Need-with-requires-2 Inv-loop μ-loop
-with-requires-2 c κs = omega arith
-
--- src/lib.rt:196:17
 returns-2 : tie.Need-returns-2 Inv-loop μ-loop
 returns-2 c =
     ap (λ (ns : Numbers). NumbersRead.Numbers ns (c .before .before .before .before .before .before .before .loop .at + 1)) (c .with2 .ensures)
     ∙ sym (numbers-line (c .before .before .before .before .before .before .before .before .before .before .args .text .now) (c .before .before .before .before .before .before .before .loop .numbers) (c .before .before .before .before .before .before .before .loop .part) (c .before .before .before .before .before .before .before .loop .at) (c .before .before .before .before .before .before .loop-test .taken) _ (sym (c .before .before .before .before .byte-turn .ensures) ∙ c .before .before .t3 .given .1)) ∙ c .before .before .before .before .before .before .before .loop .inv .3
 
--- src/lib.rt:202:17
-enum-told : tie.Need-enum-told Inv-loop μ-loop
-enum-told c = search needs
-
--- src/lib.rt:202:17
 returns-3 : tie.Need-returns-3 Inv-loop μ-loop
 returns-3 c = sym (numbers-torn (c .before .before .before .before .before .before .before .before .args .text .now) (c .before .before .before .before .before .loop .numbers) (c .before .before .before .before .before .loop .part) (c .before .before .before .before .before .loop .at) (c .before .before .before .before .loop-test .taken) (sym (c .before .before .byte-turn .ensures) ∙ c .enum-told .given .1)) ∙ c .before .before .before .before .before .loop .inv .3
 
--- src/lib.rt:173:1
 returns-4 : tie.Need-returns-4 Inv-loop μ-loop
 returns-4 c = sym (numbers-end (c .before .before .before .before .args .text .now) (c .before .loop .numbers) (c .before .loop .part) (c .before .loop .at) (omega arith)) ∙ c .before .loop .inv .3
 
@@ -120,24 +71,6 @@ pub read-numbers-spec : {M : Type 1} → statement M
 read-numbers-spec =
     tie.close
     (tie.spec
-    Inv-loop
-    μ-loop
-    none-requires
-    loop-holds
-    shared-slice-read-byte-turn
-    byte-turn-requires
-    add-at
-    enum-known-t
-    loop-less
-    loop-again
-    enum-known-t-2
-    returns
-    with-requires
-    loop-less-2
-    loop-again-2
-    enum-known-t-3
-    with-requires-2
-    returns-2
-    enum-told
-    returns-3
-    returns-4)
+    Inv-loop μ-loop none-requires loop-holds (λ c. omega arith) byte-turn-requires (λ c. omega arith) (λ c. search needs) (λ c. omega arith)
+    loop-again (λ c. search needs) returns (λ c κs. omega arith) (λ c. omega arith) loop-again-2 (λ c. search needs) (λ c κs. omega arith) returns-2
+    (λ c. search needs) returns-3 returns-4)

@@ -9,10 +9,6 @@ use borrow.Author.Needs.{needs}
 use Rattle.line_judges.proofs.member_line.Statement.{statement}
 use Rattle.line_judges.proofs.member_line.Tie as tie
 
-enum-told : tie.Need-enum-told
-enum-told c = search needs
-
--- src/lib.rt:198:9
 returns : tie.Need-returns
 returns c = (
   (λ bound earlier h before low. member-malformed (c .before .args .place) (c .before .args .numbers) (c .before .pre) bound earlier h before
@@ -20,21 +16,15 @@ returns c = (
   λ e. refused-not _ e,
 )
 
--- src/lib.rt:204:9
 returns-2 : tie.Need-returns-2
 returns-2 c = ((λ bound earlier h before low. member-name (c .before .before .before .args .place) (c .before .before .before .args .numbers) (c .before .before .before .pre) bound earlier h before (ap (λ (k : Place). samePlace k (Place.Member MemberKind.Method)) (c .before .enum-told .given .1)) (c .if1 .taken)), λ e. refused-not _ e)
 
--- src/lib.rt:208:9
-cast-if2 : tie.Need-cast-if2
-cast-if2 c = search needs
-
--- src/lib.rt:209:9
 returns-3 : tie.Need-returns-3
 returns-3 c = ((λ bound earlier h before low. member-order (c .before .before .before .before .args .place) (c .before .before .before .before .args .numbers) (c .before .before .before .before .pre) bound earlier h before (c .before .before .before .before .args .lowest) low (ap (λ (k : Place). samePlace k (Place.Member MemberKind.Method)) (c .before .before .enum-told .given .1)) (c .before .if1 .left) (c .if2 .taken)), λ e. refused-not _ e)
 
--- src/lib.rt:192:1
 returns-4 : tie.Need-returns-4
 returns-4 c = ((λ bound earlier h before low. member-good (c .before .before .before .before .args .place) (c .before .before .before .before .args .numbers) (c .before .before .before .before .pre) bound earlier h before (c .before .before .before .before .args .lowest) low (ap (λ (k : Place). samePlace k (Place.Member MemberKind.Method)) (c .before .before .enum-told .given .1)) (c .before .if1 .left) (c .if2 .left)), λ e. (ap (λ (k : Place). samePlace k (Place.Member MemberKind.Method)) (c .before .before .enum-told .given .1)))
 
 pub member-line-spec : {M : Type 1} → statement M
-member-line-spec = tie.close (tie.spec enum-told returns returns-2 cast-if2 returns-3 returns-4)
+member-line-spec = tie.close
+    (tie.spec (λ c. search needs) returns returns-2 (λ c. search needs) returns-3 returns-4)

@@ -8,74 +8,49 @@ use Rattle.machine_steps.proofs.OwnLaws.{own-some, name-small, o-small,
 use borrow.Author.Needs.{needs}
 use Rattle.machine_steps.proofs.put_step.Statement.{statement}
 use Rattle.machine_steps.proofs.put_step.Tie as tie
-use Rattle.machine_steps.proofs.put_step.Reads as reads
-use Rattle.machine_steps.proofs.put_step.Lts as lts
-use Rattle.machine_state.proofs.form_of.Reads as form-of-reads
-use Rattle.machine_state.proofs.put_field.Reads as put-field-reads
-use Rattle.machine_state.proofs.slot.Reads as slot-reads
-use Rattle.machine_steps.proofs.fill_slot.Reads as fill-slot-reads
-use Rattle.machine_steps.proofs.frame_of.Reads as frame-of-reads
-use Rattle.machine_places.proofs.place.Reads as place-reads
 
--- src/lib.rt:68:9
-frame-of-requires : tie.Need-frame-of-requires
-frame-of-requires c κs = search needs
-
--- src/lib.rt:69:13
 sub-o : tie.Need-sub-o
 sub-o c = own-some (c .before .before .before .args .work .now) (c .before .before .before .args .top) (c .before .before .before .args .tally) ((c .before .before .before .pre) .running) (c .before .before .before .args .n) (put-ready (c .before .before .before .args .work .now) (c .before .before .before .args .top) (c .before .before .before .args .tally) (c .before .before .before .args .n) (c .before .before .before .args .v) (c .before .before .before .pre))
 
--- src/lib.rt:70:44
 form-of-requires : tie.Need-form-of-requires
 form-of-requires c κs = (o-small (c .before .before .before .before .args .work .now) (c .before .before .before .before .args .top) (c .before .before .before .before .args .tally) ((c .before .before .before .before .pre) .running) (c .before .before .before .before .args .n) (put-ready (c .before .before .before .before .args .work .now) (c .before .before .before .before .args .top) (c .before .before .before .before .args .tally) (c .before .before .before .before .args .n) (c .before .before .before .before .args .v) (c .before .before .before .before .pre)) ((c .before .before .before .before .args .top) .own - 1) refl, size (c .before .before .before .before .args .work .now) (c .before .before .before .before .args .top) (c .before .before .before .before .args .tally) ((c .before .before .before .before .pre) .running))
 
--- src/lib.rt:70:9
 place-requires : tie.Need-place-requires
-place-requires c κs = (
-  f-small (c .before .before .before .before .before .args .work .now) (c .before .before .before .before .before .args .top) (c .before .before .before .before .before .args .tally) ((c .before .before .before .before .before .pre) .running) (c .before .before .before .before .before .args .n) (put-ready (c .before .before .before .before .before .args .work .now) (c .before .before .before .before .before .args .top) (c .before .before .before .before .before .args .tally) (c .before .before .before .before .before .args .n) (c .before .before .before .before .before .args .v) (c .before .before .before .before .before .pre)) ((c .before .before .before .before .before .args .top) .own - 1) refl (c .form-of .result) (c .form-of .ensures),
-  name-small (c .before .before .before .before .before .args .work .now) (c .before .before .before .before .before .args .top) (c .before .before .before .before .before .args .tally) ((c .before .before .before .before .before .pre) .running) (c .before .before .before .before .before .args .n) (put-ready (c .before .before .before .before .before .args .work .now) (c .before .before .before .before .before .args .top) (c .before .before .before .before .before .args .tally) (c .before .before .before .before .before .args .n) (c .before .before .before .before .before .args .v) (c .before .before .before .before .before .pre)),
-  size (c .before .before .before .before .before .args .work .now) (c .before .before .before .before .before .args .top) (c .before .before .before .before .before .args .tally) ((c .before .before .before .before .before .pre) .running),
-)
+place-requires c κs =
+    let a = c .before .before .before .before .before in (
+      f-small (a .args .work .now) (a .args .top) (a .args .tally) (a .pre .running) (a .args .n) (put-ready (a .args .work .now) (a .args .top) (a .args .tally) (a .args .n) (a .args .v) (a .pre)) (a .args .top .own - 1) refl (c .form-of .result) (c .form-of .ensures),
+      name-small (a .args .work .now) (a .args .top) (a .args .tally) (a .pre .running) (a .args .n) (put-ready (a .args .work .now) (a .args .top) (a .args .tally) (a .args .n) (a .args .v) (a .pre)),
+      size (a .args .work .now) (a .args .top) (a .args .tally) (a .pre .running),
+    )
 
--- src/lib.rt:71:9
 slot-requires : tie.Need-slot-requires
-slot-requires c κs = slot-asks (c .before .before .before .before .before .before .before .args .work .now) (c .before .before .before .before .before .before .before .args .top) (c .before .before .before .before .before .before .before .args .tally) (put (c .before .before .before .before .before .before .before .args .n) (c .before .before .before .before .before .before .before .args .v)) (c .before .before .before .before .before .before .before .pre) (c .before .before .before .before .before .frame-of .result) (c .before .before .before .before .before .frame-of .ensures) (c .before .before .before .before .before .before .before .args .v) (put-filled (c .before .before .before .before .before .before .before .args .work .now) (c .before .before .before .before .before .before .before .args .top) (c .before .before .before .before .before .before .before .args .tally) (c .before .before .before .before .before .before .before .args .n) (c .before .before .before .before .before .before .before .args .v) (c .before .before .before .before .before .before .before .pre))
+slot-requires c κs =
+    let f = c .before .before .before .before .before in let a = f .before .before in
+    slot-asks (a .args .work .now) (a .args .top) (a .args .tally) (put (a .args .n) (a .args .v)) (a .pre) (f .frame-of .result) (f .frame-of .ensures) (a .args .v) (put-filled (a .args .work .now) (a .args .top) (a .args .tally) (a .args .n) (a .args .v) (a .pre))
 
--- src/lib.rt:72:5
 put-field-requires : tie.Need-put-field-requires
-put-field-requires c κs = (
-  o-small (c .before .before .before .before .before .before .before .before .before .args .work .now) (c .before .before .before .before .before .before .before .before .before .args .top) (c .before .before .before .before .before .before .before .before .before .args .tally) ((c .before .before .before .before .before .before .before .before .before .pre) .running) (c .before .before .before .before .before .before .before .before .before .args .n) (put-ready (c .before .before .before .before .before .before .before .before .before .args .work .now) (c .before .before .before .before .before .before .before .before .before .args .top) (c .before .before .before .before .before .before .before .before .before .args .tally) (c .before .before .before .before .before .before .before .before .before .args .n) (c .before .before .before .before .before .before .before .before .before .args .v) (c .before .before .before .before .before .before .before .before .before .pre)) ((c .before .before .before .before .before .before .before .before .before .args .top) .own - 1) refl,
-  p-small (c .before .before .before .before .before .before .before .before .before .args .work .now) (c .before .before .before .before .before .before .before .before .before .args .top) (c .before .before .before .before .before .before .before .before .before .args .tally) ((c .before .before .before .before .before .before .before .before .before .pre) .running) (c .before .before .before .before .before .before .before .before .before .args .n) (put-ready (c .before .before .before .before .before .before .before .before .before .args .work .now) (c .before .before .before .before .before .before .before .before .before .args .top) (c .before .before .before .before .before .before .before .before .before .args .tally) (c .before .before .before .before .before .before .before .before .before .args .n) (c .before .before .before .before .before .before .before .before .before .args .v) (c .before .before .before .before .before .before .before .before .before .pre)) ((c .before .before .before .before .before .before .before .before .before .args .top) .own - 1) refl (c .before .before .before .before .form-of .result) (c .before .before .before .before .form-of .ensures) (c .before .before .before .place .result) (c .before .before .before .place .ensures),
-  size (c .before .before .before .before .before .before .before .before .before .args .work .now) (c .before .before .before .before .before .before .before .before .before .args .top) (c .before .before .before .before .before .before .before .before .before .args .tally) ((c .before .before .before .before .before .before .before .before .before .pre) .running),
-)
+put-field-requires c κs =
+    let a = c .before .before .before .before .before .before .before .before .before in (
+      o-small (a .args .work .now) (a .args .top) (a .args .tally) (a .pre .running) (a .args .n) (put-ready (a .args .work .now) (a .args .top) (a .args .tally) (a .args .n) (a .args .v) (a .pre)) (a .args .top .own - 1) refl,
+      p-small (a .args .work .now) (a .args .top) (a .args .tally) (a .pre .running) (a .args .n) (put-ready (a .args .work .now) (a .args .top) (a .args .tally) (a .args .n) (a .args .v) (a .pre)) (a .args .top .own - 1) refl (c .before .before .before .before .form-of .result) (c .before .before .before .before .form-of .ensures) (c .before .before .before .place .result) (c .before .before .before .place .ensures),
+      size (a .args .work .now) (a .args .top) (a .args .tally) (a .pre .running),
+    )
 
--- src/lib.rt:73:5
 fill-slot-requires : tie.Need-fill-slot-requires
 fill-slot-requires c κs =
-    fill-asks (c .before .before .before .before .before .before .before .before .before .before .before .before .before .args .work .now) (c .before .before .before .before .before .before .before .before .before .before .before .before .before .args .top) (c .before .before .before .before .before .before .before .before .before .before .before .before .before .args .tally) (put (c .before .before .before .before .before .before .before .before .before .before .before .before .before .args .n) (c .before .before .before .before .before .before .before .before .before .before .before .before .before .args .v)) (c .before .before .before .before .before .before .before .before .before .before .before .before .before .pre) (c .before .before .before .before .before .before .before .before .before .before .before .frame-of .result) (c .before .before .before .before .before .before .before .before .before .before .before .frame-of .ensures) (c .before .before .before .put-field .last .0)
-    (ap length (c .before .before .before .put-field .ensures) ∙ length-set (c .before .before .before .before .before .before .before .before .before .before .before .before .before .args .work .now) (fieldAddress ((c .before .before .before .before .before .before .before .before .before .before .before .before .before .args .top) .own - 1) (c .before .before .before .before .before .before .before .place .result)) (c .before .before .before .before .before .slot .result))
+    let s = c .before .before .before .before .before in let p = s .before .before in let f = p .before .before .before .before in
+    let a = f .before .before in
+    fill-asks (a .args .work .now) (a .args .top) (a .args .tally) (put (a .args .n) (a .args .v)) (a .pre) (f .frame-of .result) (f .frame-of .ensures) (c .before .before .before .put-field .last .0)
+    (ap length (c .before .before .before .put-field .ensures) ∙ length-set (a .args .work .now) (fieldAddress (a .args .top .own - 1) (p .place .result)) (s .slot .result))
 
--- src/lib.rt:64:1
-same-length : tie.Need-same-length
-same-length c = search needs
-
--- src/lib.rt:64:1
 returns : tie.Need-returns
 returns c =
-    put-took (c .before .before .before .before .before .before .before .before .before .before .before .before .before .before .before .before .args .work .now) (c .before .before .before .before .before .before .before .before .before .before .before .before .before .before .before .before .args .top) (c .before .before .before .before .before .before .before .before .before .before .before .before .before .before .before .before .args .tally) (c .before .before .before .before .before .before .before .before .before .before .before .before .before .before .frame-of .result) (c .before .before .before .before .before .before .before .before .before .before .before .before .before .before .frame-of .ensures) (c .before .before .fill-slot .last .0) (c .before .before .fill-slot .result) (c .before .before .fill-slot .ensures .0) (c .before .before .before .before .before .before .before .before .before .before .before .before .before .before .before .before .args .n) (c .before .before .before .before .before .before .before .before .before .before .before .before .before .before .before .before .args .v) (c .before .before .before .before .before .before .before .before .before .before .before .before .before .before .before .before .pre)
-    ((c .before .before .before .before .before .before .before .before .before .before .before .before .before .before .before .before .args .top) .own - 1) refl (c .before .before .before .before .before .before .before .before .before .before .before .form-of .result) (c .before .before .before .before .before .before .before .before .before .before .before .form-of .ensures) (c .before .before .before .before .before .before .before .before .before .before .place .result) (c .before .before .before .before .before .before .before .before .before .before .place .ensures)
-    (c .before .before .before .before .before .before .before .before .slot .result) (c .before .before .before .before .before .before .before .before .slot .ensures) (c .before .before .before .before .before .before .put-field .last .0) (c .before .before .before .before .before .before .put-field .ensures) (c .before .before .fill-slot .ensures .1)
+    let p = c .before .before .before .before .before .before in let s = p .before .before in let a = s .before .before in let f = a .before in
+    let b = f .before .before .before in let d = b .before .before in
+    put-took (d .args .work .now) (d .args .top) (d .args .tally) (b .frame-of .result) (b .frame-of .ensures) (c .before .before .fill-slot .last .0) (c .before .before .fill-slot .result) (c .before .before .fill-slot .ensures .0) (d .args .n) (d .args .v) (d .pre)
+    (d .args .top .own - 1) refl (f .form-of .result) (f .form-of .ensures) (a .place .result) (a .place .ensures)
+    (s .slot .result) (s .slot .ensures) (p .put-field .last .0) (p .put-field .ensures) (c .before .before .fill-slot .ensures .1)
 
 pub put-step-spec : {M : Type 1} → statement M
-put-step-spec =
-    tie.close
-    (tie.spec
-    frame-of-requires
-    sub-o
-    form-of-requires
-    place-requires
-    slot-requires
-    put-field-requires
-    fill-slot-requires
-    same-length
-    returns)
+put-step-spec = tie.close (tie.spec (λ c κs. search needs) sub-o form-of-requires place-requires slot-requires
+    put-field-requires fill-slot-requires (λ c. search needs) returns)

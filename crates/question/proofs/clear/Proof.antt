@@ -12,49 +12,21 @@ Inv-loop work₀ i₀ work i = Going work₀ work i
 abbrev μ-loop : tie.MeasureT-loop
 μ-loop work₀ i₀ work i = workSize - i
 
--- src/lib.rt:14:5
 loop-holds : tie.Need-loop-holds Inv-loop μ-loop
 loop-holds c = going-start (c .args .work .now)
 
--- src/lib.rt:15:9
-mul-work : tie.Need-mul-work Inv-loop μ-loop
-mul-work c = search needs
-
--- src/lib.rt:15:9
 slice-write-work : tie.Need-slice-write-work Inv-loop μ-loop
 slice-write-work c = omega (arith, c .loop-test .taken, going-size (c .before .before .args .work .now) (c .before .before .pre) (c .before .loop .work) (c .before .loop .i) (c .before .loop .inv), c .before .before .pre)
 
--- src/lib.rt:16:13
-add-i : tie.Need-add-i Inv-loop μ-loop
-add-i c = omega arith
-
--- src/lib.rt:14:5
-loop-less : tie.Need-loop-less Inv-loop μ-loop
-loop-less c = omega arith
-
--- src/lib.rt:14:5
 loop-again : tie.Need-loop-again Inv-loop μ-loop
 loop-again c = going-next (c .before .before .args .work .now) (c .before .before .pre) (c .before .loop .work) (c .before .loop .i) (c .before .loop .inv) (c .loop-test .taken)
 
--- src/lib.rt:9:1
 same-length : tie.Need-same-length Inv-loop μ-loop
 same-length c = going-size (c .before .before .args .work .now) (c .before .before .pre) (c .before .loop .work) (c .before .loop .i) (c .before .loop .inv)
 
--- src/lib.rt:9:1
 returns : tie.Need-returns Inv-loop μ-loop
 returns c = going-end (c .before .before .args .work .now) (c .before .before .pre) (c .before .loop .work) (c .before .loop .i) (c .before .loop .inv) (c .loop-test .left)
 
 pub clear-spec : {M : Type 1} → statement M
-clear-spec =
-    tie.close
-    (tie.spec
-    Inv-loop
-    μ-loop
-    loop-holds
-    mul-work
-    slice-write-work
-    add-i
-    loop-less
-    loop-again
-    same-length
-    returns)
+clear-spec = tie.close (tie.spec Inv-loop μ-loop loop-holds (λ c. search needs) slice-write-work (λ c. omega arith)
+    (λ c. omega arith) loop-again same-length returns)

@@ -7,9 +7,6 @@ use Rattle.row_reader.specs.Reads.{memberItems}
 use Rattle.row_reader.proofs.MembersLaws.{going-in, member-turn}
 use Rattle.row_reader.proofs.read_members.Statement.{statement}
 use Rattle.row_reader.proofs.read_members.Tie as tie
-use Rattle.row_reader.proofs.read_members.Reads as reads
-use Rattle.row_reader.proofs.read_members.Lts as lts
-use Rattle.row_reader.proofs.read_member.Reads as read-member-reads
 
 abbrev Inv-loop : tie.InvT-loop
 Inv-loop text work₀ i count j₀ here₀ work j here = Going text (memberItems work₀ i (here₀ .used)) count here₀ work₀ work j here
@@ -17,31 +14,19 @@ Inv-loop text work₀ i count j₀ here₀ work j here = Going text (memberItems
 abbrev μ-loop : tie.MeasureT-loop
 μ-loop text work₀ i count j₀ here₀ work j here = count - j
 
--- src/lib.rt:81:5
 loop-holds : tie.Need-loop-holds Inv-loop μ-loop
 loop-holds c = going-start (c .before .before .pre .0) refl
 
--- src/lib.rt:82:13
 read-member-requires : tie.Need-read-member-requires Inv-loop μ-loop
 read-member-requires c κs =
     let loop = c .before .before in
     (loop .loop .inv .room, going-in (loop .before .before .before .pre .1) (loop .loop .inv) (c .before .loop-test .taken))
 
--- src/lib.rt:83:31
-enum-known-r : tie.Need-enum-known-r Inv-loop μ-loop
-enum-known-r c = search needs
-
--- src/lib.rt:84:13
-enum-told : tie.Need-enum-told Inv-loop μ-loop
-enum-told c = search needs
-
--- src/lib.rt:84:13
 same-length : tie.Need-same-length Inv-loop μ-loop
 same-length c =
     let turn = c .before .before .before .before in
     turn .read-member .ensures .only .size ∙ turn .before .before .before .loop .inv .only .size
 
--- src/lib.rt:84:13
 returns : tie.Need-returns Inv-loop μ-loop
 returns c =
     let turn = c .before .before .before .before in
@@ -49,15 +34,6 @@ returns c =
     let l = turn .before .before .loop-test .taken in
     going-stop (loop .loop .inv) l (c .enum-told .given .1) (member-turn (loop .before .before .before .pre .1) (loop .loop .inv) l (turn .read-member .ensures))
 
--- src/lib.rt:87:13
-add-j : tie.Need-add-j Inv-loop μ-loop
-add-j c = omega arith
-
--- src/lib.rt:81:5
-loop-less : tie.Need-loop-less Inv-loop μ-loop
-loop-less c = omega arith
-
--- src/lib.rt:81:5
 loop-again : tie.Need-loop-again Inv-loop μ-loop
 loop-again c =
     let turn = c .before .before .before .before .before in
@@ -65,11 +41,9 @@ loop-again c =
     let l = turn .before .before .loop-test .taken in
     going-next (loop .loop .inv) l (c .before .r .given .1) (member-turn (loop .before .before .before .pre .1) (loop .loop .inv) l (turn .read-member .ensures))
 
--- src/lib.rt:75:1
 same-length-2 : tie.Need-same-length-2 Inv-loop μ-loop
 same-length-2 c = c .before .loop .inv .only .size
 
--- src/lib.rt:75:1
 returns-2 : tie.Need-returns-2 Inv-loop μ-loop
 returns-2 c = going-end (c .before .loop .inv) (omega arith)
 
@@ -77,16 +51,5 @@ pub read-members-spec : {M : Type 1} → statement M
 read-members-spec =
     tie.close
     (tie.spec
-    Inv-loop
-    μ-loop
-    loop-holds
-    read-member-requires
-    enum-known-r
-    enum-told
-    same-length
-    returns
-    add-j
-    loop-less
-    loop-again
-    same-length-2
-    returns-2)
+    Inv-loop μ-loop loop-holds read-member-requires (λ c. search needs) (λ c. search needs) same-length returns (λ c. omega arith) (λ c. omega arith)
+    loop-again same-length-2 returns-2)

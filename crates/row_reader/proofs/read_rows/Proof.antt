@@ -7,9 +7,6 @@ use Rattle.row_reader.specs.Reads.{rowItems}
 use Rattle.row_reader.proofs.RowsLaws.{row-turn}
 use Rattle.row_reader.proofs.read_rows.Statement.{statement}
 use Rattle.row_reader.proofs.read_rows.Tie as tie
-use Rattle.row_reader.proofs.read_rows.Reads as reads
-use Rattle.row_reader.proofs.read_rows.Lts as lts
-use Rattle.row_reader.proofs.read_row.Reads as read-row-reads
 
 abbrev Inv-loop : tie.InvT-loop
 Inv-loop text work₀ count i₀ here₀ work i here = Going text (rowItems (here₀ .used)) count here₀ work₀ work i here
@@ -17,32 +14,20 @@ Inv-loop text work₀ count i₀ here₀ work i here = Going text (rowItems (her
 abbrev μ-loop : tie.MeasureT-loop
 μ-loop text work₀ count i₀ here₀ work i here = count - i
 
--- src/lib.rt:140:5
 loop-holds : tie.Need-loop-holds Inv-loop μ-loop
 loop-holds c = going-start (c .before .before .pre .0) refl
 
--- src/lib.rt:141:13
 read-row-requires : tie.Need-read-row-requires Inv-loop μ-loop
 read-row-requires c κs =
     let p = c .before .before .before .before .before .pre in
     let g = c .before .before .loop .inv in
     (g .room, omega (arith, p .1, c .before .loop-test .taken), omega (arith, p .2, g .only .size))
 
--- src/lib.rt:142:31
-enum-known-r : tie.Need-enum-known-r Inv-loop μ-loop
-enum-known-r c = search needs
-
--- src/lib.rt:143:13
-enum-told : tie.Need-enum-told Inv-loop μ-loop
-enum-told c = search needs
-
--- src/lib.rt:143:13
 same-length : tie.Need-same-length Inv-loop μ-loop
 same-length c =
     let turn = c .before .before .before .before in
     turn .read-row .ensures .only .size ∙ turn .before .before .before .loop .inv .only .size
 
--- src/lib.rt:143:13
 returns : tie.Need-returns Inv-loop μ-loop
 returns c =
     let turn = c .before .before .before .before in
@@ -50,15 +35,6 @@ returns c =
     let l = turn .before .before .loop-test .taken in
     going-stop (loop .loop .inv) l (c .enum-told .given .1) (row-turn (loop .loop .inv) (loop .before .before .before .pre .1) l (turn .read-row .ensures))
 
--- src/lib.rt:146:13
-add-i : tie.Need-add-i Inv-loop μ-loop
-add-i c = omega arith
-
--- src/lib.rt:140:5
-loop-less : tie.Need-loop-less Inv-loop μ-loop
-loop-less c = omega arith
-
--- src/lib.rt:140:5
 loop-again : tie.Need-loop-again Inv-loop μ-loop
 loop-again c =
     let turn = c .before .before .before .before .before in
@@ -66,11 +42,9 @@ loop-again c =
     let l = turn .before .before .loop-test .taken in
     going-next (loop .loop .inv) l (c .before .r .given .1) (row-turn (loop .loop .inv) (loop .before .before .before .pre .1) l (turn .read-row .ensures))
 
--- src/lib.rt:134:1
 same-length-2 : tie.Need-same-length-2 Inv-loop μ-loop
 same-length-2 c = c .before .loop .inv .only .size
 
--- src/lib.rt:134:1
 returns-2 : tie.Need-returns-2 Inv-loop μ-loop
 returns-2 c = going-end (c .before .loop .inv) (omega arith)
 
@@ -78,16 +52,5 @@ pub read-rows-spec : {M : Type 1} → statement M
 read-rows-spec =
     tie.close
     (tie.spec
-    Inv-loop
-    μ-loop
-    loop-holds
-    read-row-requires
-    enum-known-r
-    enum-told
-    same-length
-    returns
-    add-i
-    loop-less
-    loop-again
-    same-length-2
-    returns-2)
+    Inv-loop μ-loop loop-holds read-row-requires (λ c. search needs) (λ c. search needs) same-length returns (λ c. omega arith) (λ c. omega arith)
+    loop-again same-length-2 returns-2)

@@ -8,27 +8,9 @@ use borrow.Author.Needs.{needs}
 use Rattle.row_store.proofs.lowest_name.Statement.{statement}
 use Rattle.row_store.proofs.lowest_name.Tie as tie
 
--- src/lib.rt:23:9
 returns : tie.Need-returns
 returns c = subst (λ (j : ℕ). Lowest (membersIn (c .before .before .args .work .now) (c .before .before .args .i) j) 0) (sym (c .if1 .taken)) (lowest-none (memberIn (c .before .before .args .work .now) (c .before .before .args .i)))
 
--- src/lib.rt:25:42
-sub-member : tie.Need-sub-member
-sub-member c = search needs
-
--- src/lib.rt:25:9
-member-requires : tie.Need-member-requires
-member-requires c κs = search needs
-
--- src/lib.rt:26:5
-name-of-requires : tie.Need-name-of-requires
-name-of-requires c κs = search needs
-
--- src/lib.rt:26:5
-add-result : tie.Need-add-result
-add-result c = search needs
-
--- src/lib.rt:18:1
 returns-2 : tie.Need-returns-2
 returns-2 c =
     let e : suc (c .before .before .before .before .args .j - 1) ≡ c .before .before .before .before .args .j = omega (arith, c .before .before .if1 .left) in
@@ -38,4 +20,5 @@ returns-2 c =
 
 pub lowest-name-spec : {M : Type 1} → statement M
 lowest-name-spec =
-    tie.close (tie.spec returns sub-member member-requires name-of-requires add-result returns-2)
+    tie.close
+    (tie.spec returns (λ c. search needs) (λ c κs. search needs) (λ c κs. search needs) (λ c. search needs) returns-2)

@@ -15,44 +15,25 @@ Inv-loop work i k₀ k = (k ≤ i) × (twin (rowsIn work k) (rowIn work i) ≡ f
 abbrev μ-loop : tie.MeasureT-loop
 μ-loop work i k₀ k = i - k
 
--- src/lib.rt:124:5
 loop-holds : tie.Need-loop-holds Inv-loop μ-loop
 loop-holds c = (omega arith, twin-none (rowIn (c .before .args .work .now)) (rowIn (c .before .args .work .now) (c .before .args .i)))
 
--- src/lib.rt:125:12
 same-row-requires : tie.Need-same-row-requires Inv-loop μ-loop
 same-row-requires c κs = (omega arith, c .before .before .before .pre .0, c .before .before .before .pre .1, c .before .before .before .pre .2)
 
--- src/lib.rt:126:13
 returns : tie.Need-returns Inv-loop μ-loop
-returns c = sym (twin-found (rowIn (c .before .before .before .before .before .args .work .now)) (rowIn (c .before .before .before .before .before .args .work .now) (c .before .before .before .before .before .args .i)) (c .before .before .before .loop .k) (c .before .before .before .before .before .args .i) (c .before .before .loop-test .taken) (sym (c .before .same-row .ensures) ∙ c .if1 .taken))
+returns c =
+    let a = c .before .before .before .before .before in
+    sym (twin-found (rowIn (a .args .work .now)) (rowIn (a .args .work .now) (a .args .i)) (c .before .before .before .loop .k) (a .args .i) (c .before .before .loop-test .taken) (sym (c .before .same-row .ensures) ∙ c .if1 .taken))
 
--- src/lib.rt:128:13
-add-k : tie.Need-add-k Inv-loop μ-loop
-add-k c = omega arith
-
--- src/lib.rt:124:5
-loop-less : tie.Need-loop-less Inv-loop μ-loop
-loop-less c = omega arith
-
--- src/lib.rt:124:5
 loop-again : tie.Need-loop-again Inv-loop μ-loop
-loop-again c = (omega arith, rw add-one (twin-next (rowIn (c .before .before .before .before .before .args .work .now)) (rowIn (c .before .before .before .before .before .args .work .now) (c .before .before .before .before .before .args .i)) (c .before .before .before .loop .k) (c .before .before .before .loop .inv .1) (sym (c .before .same-row .ensures) ∙ c .if1 .left)))
+loop-again c =
+    let a = c .before .before .before .before .before in
+    (omega arith, rw add-one (twin-next (rowIn (a .args .work .now)) (rowIn (a .args .work .now) (a .args .i)) (c .before .before .before .loop .k) (c .before .before .before .loop .inv .1) (sym (c .before .same-row .ensures) ∙ c .if1 .left)))
 
--- src/lib.rt:119:1
 returns-2 : tie.Need-returns-2 Inv-loop μ-loop
 returns-2 c = sym (subst (λ (n : ℕ). twin (rowsIn (c .before .before .before .args .work .now) n) (rowIn (c .before .before .before .args .work .now) (c .before .before .before .args .i)) ≡ false) (omega arith) (c .before .loop .inv .1))
 
 pub has-twin-spec : {M : Type 1} → statement M
-has-twin-spec =
-    tie.close
-    (tie.spec
-    Inv-loop
-    μ-loop
-    loop-holds
-    same-row-requires
-    returns
-    add-k
-    loop-less
-    loop-again
-    returns-2)
+has-twin-spec = tie.close (tie.spec Inv-loop μ-loop loop-holds same-row-requires returns (λ c. omega arith) (λ c. omega arith)
+    loop-again returns-2)

@@ -6,25 +6,14 @@ use borrow.Author.Needs.{needs}
 use Rattle.row_twins.proofs.same_field.Statement.{statement}
 use Rattle.row_twins.proofs.same_field.Tie as tie
 
--- src/lib.rt:55:31
-enum-known-b : tie.Need-enum-known-b
-enum-known-b c = search needs
-
--- src/lib.rt:57:17
 returns : tie.Need-returns
 returns c = sym (ap (sameMember (Member.Field (c .before .before .before .before .args .name) (c .before .before .before .before .args .row))) (c .before .before .b .given .1) ∙ simp (eq-eqb _ _ (c .if1 .taken)))
 
--- src/lib.rt:59:13
 returns-2 : tie.Need-returns-2
 returns-2 c = sym (ap (sameMember (Member.Field (c .before .before .before .before .args .name) (c .before .before .before .before .args .row))) (c .before .before .b .given .1) ∙ simp (ne-eqb _ _ (c .if1 .left)))
 
--- src/lib.rt:66:13
-enum-told : tie.Need-enum-told
-enum-told c = search needs
-
--- src/lib.rt:66:13
 returns-3 : tie.Need-returns-3
 returns-3 c = sym (ap (sameMember (Member.Field (c .before .before .args .name) (c .before .before .args .row))) (c .enum-told .given .1))
 
 pub same-field-spec : {M : Type 1} → statement M
-same-field-spec = tie.close (tie.spec enum-known-b returns returns-2 enum-told returns-3)
+same-field-spec = tie.close (tie.spec (λ c. search needs) returns returns-2 (λ c. search needs) returns-3)

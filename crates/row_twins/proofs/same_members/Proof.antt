@@ -17,60 +17,36 @@ Inv-loop work a b count j₀ j = (j ≤ count) × (sameMembers (membersIn work a
 abbrev μ-loop : tie.MeasureT-loop
 μ-loop work a b count j₀ j = count - j
 
--- src/lib.rt:91:5
 loop-holds : tie.Need-loop-holds Inv-loop μ-loop
 loop-holds c = (omega arith, members-none (memberIn (c .before .args .work .now) (c .before .args .a)) (memberIn (c .before .args .work .now) (c .before .args .b)))
 
--- src/lib.rt:92:13
 member-requires : tie.Need-member-requires Inv-loop μ-loop
 member-requires c κs = (c .before .before .before .pre .0, omega arith, c .before .before .before .pre .3)
 
--- src/lib.rt:93:13
 member-requires-2 : tie.Need-member-requires-2 Inv-loop μ-loop
 member-requires-2 c κs = (c .before .before .before .before .pre .1, omega arith, c .before .before .before .before .pre .3)
 
--- src/lib.rt:94:13
 same-member-requires : tie.Need-same-member-requires Inv-loop μ-loop
 same-member-requires c κs = tt
 
--- src/lib.rt:95:13
 returns : tie.Need-returns Inv-loop μ-loop
 returns c =
-    sym (members-differ (memberIn (c .before .before .before .before .before .before .before .args .work .now) (c .before .before .before .before .before .before .before .args .a)) (memberIn (c .before .before .before .before .before .before .before .args .work .now) (c .before .before .before .before .before .before .before .args .b)) (c .before .before .before .before .before .loop .j) (c .before .before .before .before .before .before .before .args .count) (c .before .before .before .before .loop-test .taken) (c .before .before .before .before .before .loop .inv .1)
+    let l = c .before .before .before .before .before in let d = l .before .before in
+    sym (members-differ (memberIn (d .args .work .now) (d .args .a)) (memberIn (d .args .work .now) (d .args .b)) (l .loop .j) (d .args .count) (c .before .before .before .before .loop-test .taken) (l .loop .inv .1)
     (sym (ap₂ sameMember (c .before .before .before .member .ensures) (c .before .before .member2 .ensures)) ∙ sym (c .before .same-member .ensures) ∙ not-true (c .before .same-member .result) (c .if1 .taken)))
 
--- src/lib.rt:97:13
-add-j : tie.Need-add-j Inv-loop μ-loop
-add-j c = omega arith
-
--- src/lib.rt:91:5
-loop-less : tie.Need-loop-less Inv-loop μ-loop
-loop-less c = omega arith
-
--- src/lib.rt:91:5
 loop-again : tie.Need-loop-again Inv-loop μ-loop
-loop-again c = (
-  omega arith,
-  rw add-one (members-next (memberIn (c .before .before .before .before .before .before .before .args .work .now) (c .before .before .before .before .before .before .before .args .a)) (memberIn (c .before .before .before .before .before .before .before .args .work .now) (c .before .before .before .before .before .before .before .args .b)) (c .before .before .before .before .before .loop .j) (c .before .before .before .before .before .loop .inv .1) (sym (ap₂ sameMember (c .before .before .before .member .ensures) (c .before .before .member2 .ensures)) ∙ sym (c .before .same-member .ensures) ∙ not-false (c .before .same-member .result) (c .if1 .left))),
-)
+loop-again c =
+    let l = c .before .before .before .before .before in
+    let d = l .before .before in (
+      omega arith,
+      rw add-one (members-next (memberIn (d .args .work .now) (d .args .a)) (memberIn (d .args .work .now) (d .args .b)) (l .loop .j) (l .loop .inv .1) (sym (ap₂ sameMember (c .before .before .before .member .ensures) (c .before .before .member2 .ensures)) ∙ sym (c .before .same-member .ensures) ∙ not-false (c .before .same-member .result) (c .if1 .left))),
+    )
 
--- src/lib.rt:86:1
 returns-2 : tie.Need-returns-2 Inv-loop μ-loop
 returns-2 c =
     sym (subst (λ n. sameMembers (membersIn (c .before .before .before .args .work .now) (c .before .before .before .args .a) n) (membersIn (c .before .before .before .args .work .now) (c .before .before .before .args .b) n) ≡ true) (omega arith) (c .before .loop .inv .1))
 
 pub same-members-spec : {M : Type 1} → statement M
-same-members-spec =
-    tie.close
-    (tie.spec
-    Inv-loop
-    μ-loop
-    loop-holds
-    member-requires
-    member-requires-2
-    same-member-requires
-    returns
-    add-j
-    loop-less
-    loop-again
-    returns-2)
+same-members-spec = tie.close (tie.spec Inv-loop μ-loop loop-holds member-requires member-requires-2 same-member-requires
+    returns (λ c. omega arith) (λ c. omega arith) loop-again returns-2)

@@ -6,7 +6,6 @@ use Rattle.sheet_report.proofs.out_buffer.Tie as tie
 use Rattle.sheet_report.proofs.out_buffer.Reads as reads
 use Rattle.sheet_report.proofs.out_buffer.Lts as lts
 
--- src/main.rt:89:1
 returns : tie.Need-returns
 returns c = sym (length-replicate {0} {A = ℕ} 729472 0)
 

@@ -15,43 +15,33 @@ Inv-loop text₀ n₀ text n = (n ≤ length text) × (length text ≡ length te
 abbrev μ-loop : tie.MeasureT-loop
 μ-loop text₀ n₀ text n = length text₀ - n
 
--- src/main.rt:59:5
 loop-holds : tie.Need-loop-holds Inv-loop μ-loop
 loop-holds c = (omega arith, refl)
 
--- src/main.rt:60:13
 read-more-requires : tie.Need-read-more-requires Inv-loop μ-loop
 read-more-requires c κs = (c .before .before .loop .inv) .0
 
--- src/main.rt:62:13
 same-length : tie.Need-same-length Inv-loop μ-loop
 same-length c = c .before .before .before .before .read-more .kept .0 ∙ (c .before .before .before .before .before .before .before .loop .inv) .1
 
--- src/main.rt:62:13
 returns : tie.Need-returns Inv-loop μ-loop
 returns c = omega (arith, (c .before .before .before .before .before .before .before .loop .inv) .0, c .before .before .before .before .read-more .kept .0)
 
--- src/main.rt:67:13
 add-n : tie.Need-add-n Inv-loop μ-loop
 add-n c = omega (arith, c .before .before .before .before .before .read-more .ensures, c .before .before .before .before .before .read-more .kept .0, (c .before .before .before .before .before .before .before .before .loop .inv) .1)
 
--- src/main.rt:59:5
 loop-less : tie.Need-loop-less Inv-loop μ-loop
 loop-less c = omega (arith, c .before .before .before .before .before .read-more .ensures, c .before .before .before .before .before .read-more .kept .0, (c .before .before .before .before .before .before .before .before .loop .inv) .1, c .before .if1 .left)
 
--- src/main.rt:59:5
 loop-again : tie.Need-loop-again Inv-loop μ-loop
 loop-again c = (c .before .before .before .before .before .read-more .ensures, c .before .before .before .before .before .read-more .kept .0 ∙ (c .before .before .before .before .before .before .before .before .loop .inv) .1)
 
--- src/main.rt:71:19
 skip-rest-requires : tie.Need-skip-rest-requires Inv-loop μ-loop
 skip-rest-requires c κs = tt
 
--- src/main.rt:55:1
 same-length-2 : tie.Need-same-length-2 Inv-loop μ-loop
 same-length-2 c = (c .before .before .loop .inv) .1
 
--- src/main.rt:55:1
 returns-2 : tie.Need-returns-2 Inv-loop μ-loop
 returns-2 c = (c .before .before .loop .inv) .0
 

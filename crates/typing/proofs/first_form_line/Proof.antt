@@ -1,4 +1,3 @@
-use borrow.Author.Needs.{needs}
 use native.Mathlib.Omega.{arith}
 use Prim.Native.Nat.{_-_}
 use Rattle.table.specs.View.{sheetIn}
@@ -6,10 +5,6 @@ use Rattle.table.proofs.RowLaws.{rows-length}
 use Rattle.typing.proofs.SheetLaws.{RowsWalk, rows-start, rows-next, rows-end}
 use Rattle.typing.proofs.first_form_line.Statement.{statement}
 use Rattle.typing.proofs.first_form_line.Tie as tie
-use Rattle.typing.proofs.first_form_line.Reads as reads
-use Rattle.typing.proofs.first_form_line.Lts as lts
-use Rattle.table.proofs.rows.members_at.Reads as members-at-reads
-use Rattle.table.proofs.rows.row_count.Reads as row-count-reads
 
 abbrev Inv-loop : tie.InvT-loop
 Inv-loop work count line₀ a₀ line a = RowsWalk ((sheetIn work) .rows) a line
@@ -17,47 +12,31 @@ Inv-loop work count line₀ a₀ line a = RowsWalk ((sheetIn work) .rows) a line
 abbrev μ-loop : tie.MeasureT-loop
 μ-loop work count line₀ a₀ line a = count - a
 
--- src/lib.rt:19:9
 row-count-requires : tie.Need-row-count-requires Inv-loop μ-loop
 row-count-requires c κs = (c .before .pre) .size
 
--- src/lib.rt:22:5
 loop-holds : tie.Need-loop-holds Inv-loop μ-loop
 loop-holds c = rows-start
 
--- src/lib.rt:23:16
 add-line : tie.Need-add-line Inv-loop μ-loop
 add-line c = omega (arith, (c .before .loop .inv) .lined, c .loop-test .taken, c .before .before .row-count .ensures, rows-length (c .before .before .before .before .args .work .now), (c .before .before .before .before .pre) .sheet .fewRows)
 
--- src/lib.rt:23:27
 members-at-requires : tie.Need-members-at-requires Inv-loop μ-loop
 members-at-requires c κs = (c .before .before .before .before .pre)
 
--- src/lib.rt:23:27
 cast-line : tie.Need-cast-line Inv-loop μ-loop
 cast-line c = omega (arith, c .members-at .ensures .1)
 
--- src/lib.rt:23:16
 add-line-2 : tie.Need-add-line-2 Inv-loop μ-loop
 add-line-2 c =
     let b = c .before .before .before .before .before in
     omega (arith, c .before .before .loop .inv .lined, c .before .loop-test .taken, c .before .before .before .row-count .ensures, rows-length (b .args .work .now), b .pre .sheet .fewRows, c .members-at .ensures .1)
 
--- src/lib.rt:24:13
-add-a : tie.Need-add-a Inv-loop μ-loop
-add-a c = omega arith
-
--- src/lib.rt:22:5
-loop-less : tie.Need-loop-less Inv-loop μ-loop
-loop-less c = omega arith
-
--- src/lib.rt:22:5
 loop-again : tie.Need-loop-again Inv-loop μ-loop
 loop-again c =
     let b = c .before .before .before .before .before in
     rows-next (c .before .before .loop .inv) (omega (arith, c .before .loop-test .taken, c .before .before .before .row-count .ensures, rows-length (b .args .work .now))) (c .members-at .ensures .0) (c .members-at .ensures .1)
 
--- src/lib.rt:15:1
 returns : tie.Need-returns Inv-loop μ-loop
 returns c = (
   rows-end (c .before .loop .inv) (omega (arith, c .loop-test .left, c .before .before .row-count .ensures, rows-length (c .before .before .before .before .args .work .now))),
@@ -68,15 +47,5 @@ pub first-form-line-spec : {M : Type 1} → statement M
 first-form-line-spec =
     tie.close
     (tie.spec
-    Inv-loop
-    μ-loop
-    row-count-requires
-    loop-holds
-    add-line
-    members-at-requires
-    cast-line
-    add-line-2
-    add-a
-    loop-less
-    loop-again
+    Inv-loop μ-loop row-count-requires loop-holds add-line members-at-requires cast-line add-line-2 (λ c. omega arith) (λ c. omega arith) loop-again
     returns)

@@ -5,10 +5,6 @@ use mathlib.Core.Path.{_∙_}
 use Rattle.typing.proofs.FormsLaws.{FormsGoing, forms-start, forms-whole, forms-in, forms-end, forms-stop, forms-next}
 use Rattle.typing.proofs.judge_forms.Statement.{statement}
 use Rattle.typing.proofs.judge_forms.Tie as tie
-use Rattle.typing.proofs.judge_forms.Reads as reads
-use Rattle.typing.proofs.judge_forms.Lts as lts
-use Rattle.form_typing.proofs.judge_form.Reads as judge-form-reads
-use Rattle.table.proofs.forms.form_count.Reads as form-count-reads
 
 abbrev Inv-loop : tie.InvT-loop
 Inv-loop work₀ first count f₀ line₀ work f line = FormsGoing first work₀ work f line
@@ -16,15 +12,12 @@ Inv-loop work₀ first count f₀ line₀ work f line = FormsGoing first work₀
 abbrev μ-loop : tie.MeasureT-loop
 μ-loop work₀ first count f₀ line₀ work f line = count - f
 
--- src/lib.rt:34:9
 form-count-requires : tie.Need-form-count-requires Inv-loop μ-loop
 form-count-requires c κs = (c .before .before .pre .0)
 
--- src/lib.rt:37:5
 loop-holds : tie.Need-loop-holds Inv-loop μ-loop
 loop-holds c = forms-start
 
--- src/lib.rt:38:13
 judge-form-requires : tie.Need-judge-form-requires Inv-loop μ-loop
 judge-form-requires c κs =
     let going = c .before .before .loop .inv in
@@ -35,47 +28,26 @@ judge-form-requires c κs =
       omega (arith, going .lined, b .pre .1, c .before .loop-test .taken, count .1),
     )
 
--- src/lib.rt:39:32
-enum-known-r : tie.Need-enum-known-r Inv-loop μ-loop
-enum-known-r c = search needs
-
--- src/lib.rt:40:13
-enum-told : tie.Need-enum-told Inv-loop μ-loop
-enum-told c = search needs
-
--- src/lib.rt:40:13
 same-length : tie.Need-same-length Inv-loop μ-loop
 same-length c =
     let b = c .before .before .before .before .before .before .before in
     c .before .before .before .before .judge-form .ensures .only .size ∙ b .loop .inv .only .size
 
--- src/lib.rt:40:13
 returns : tie.Need-returns Inv-loop μ-loop
 returns c =
     let form = c .before .before .before .before in
     let loop = form .before .before .before in
     forms-stop (loop .loop .inv) (loop .before .before .before .before .pre .0) (loop .before .form-count .ensures .0) (form .before .before .loop-test .taken) (form .judge-form .ensures) (c .enum-told .given .1)
 
--- src/lib.rt:43:13
-add-f : tie.Need-add-f Inv-loop μ-loop
-add-f c = omega arith
-
--- src/lib.rt:37:5
-loop-less : tie.Need-loop-less Inv-loop μ-loop
-loop-less c = omega arith
-
--- src/lib.rt:37:5
 loop-again : tie.Need-loop-again Inv-loop μ-loop
 loop-again c =
     let form = c .before .before .before .before .before in
     let loop = form .before .before .before in
     forms-next (loop .loop .inv) (loop .before .before .before .before .pre .0) (loop .before .form-count .ensures .0) (form .before .before .loop-test .taken) (form .judge-form .ensures) (c .before .r .given .1)
 
--- src/lib.rt:30:1
 same-length-2 : tie.Need-same-length-2 Inv-loop μ-loop
 same-length-2 c = (c .before .loop .inv) .only .size
 
--- src/lib.rt:30:1
 returns-2 : tie.Need-returns-2 Inv-loop μ-loop
 returns-2 c =
     let b = c .before .before .before .before .before in
@@ -85,17 +57,5 @@ pub judge-forms-spec : {M : Type 1} → statement M
 judge-forms-spec =
     tie.close
     (tie.spec
-    Inv-loop
-    μ-loop
-    form-count-requires
-    loop-holds
-    judge-form-requires
-    enum-known-r
-    enum-told
-    same-length
-    returns
-    add-f
-    loop-less
-    loop-again
-    same-length-2
-    returns-2)
+    Inv-loop μ-loop form-count-requires loop-holds judge-form-requires (λ c. search needs) (λ c. search needs) same-length returns (λ c. omega arith)
+    (λ c. omega arith) loop-again same-length-2 returns-2)

@@ -7,29 +7,15 @@ use Rattle.machine_state.specs.Held.{objectsIn}
 use borrow.Author.Needs.{needs}
 use Rattle.authority.proofs.collect.is_reached.Statement.{statement}
 use Rattle.authority.proofs.collect.is_reached.Tie as tie
-use Rattle.authority.proofs.collect.is_reached.Reads as reads
-use Rattle.authority.proofs.collect.is_reached.Lts as lts
-use Rattle.authority.proofs.is_resource.Reads as is-resource-reads
-use Rattle.authority_marks.proofs.is_marked.Reads as is-marked-reads
 
--- src/collect.rt:15:9
-is-marked-requires : tie.Need-is-marked-requires
-is-marked-requires c κs = search needs
-
--- src/collect.rt:16:9
 returns : tie.Need-returns
 returns c =
     sym (ap (λ (t : Bool). t && isResource (sheetIn (c .before .before .before .args .work .now)) (objectsIn (sheetIn (c .before .before .before .args .work .now)) (c .before .before .before .args .work .now) (c .before .before .before .args .n)) (c .before .before .before .args .b)) (sym (c .before .is-marked .ensures) ∙ not-true (c .before .is-marked .result) (c .if1 .taken)))
 
--- src/collect.rt:18:5
-is-resource-requires : tie.Need-is-resource-requires
-is-resource-requires c κs = search needs
-
--- src/collect.rt:11:1
 returns-2 : tie.Need-returns-2
 returns-2 c =
     c .is-resource .ensures
     ∙ sym (ap (λ (t : Bool). t && isResource (sheetIn (c .before .before .before .before .args .work .now)) (objectsIn (sheetIn (c .before .before .before .before .args .work .now)) (c .before .before .before .before .args .work .now) (c .before .before .before .before .args .n)) (c .before .before .before .before .args .b)) (sym (c .before .before .is-marked .ensures) ∙ not-false (c .before .before .is-marked .result) (c .before .if1 .left)))
 
 pub is-reached-spec : {M : Type 1} → statement M
-is-reached-spec = tie.close (tie.spec is-marked-requires returns is-resource-requires returns-2)
+is-reached-spec = tie.close (tie.spec (λ c κs. search needs) returns (λ c κs. search needs) returns-2)

@@ -5,25 +5,10 @@ use Rattle.table.proofs.InstrLaws.{slot-row-address}
 use borrow.Author.Needs.{needs}
 use Rattle.table.proofs.instrs.put_slot_row.Statement.{statement}
 use Rattle.table.proofs.instrs.put_slot_row.Tie as tie
-use Rattle.table.proofs.instrs.put_slot_row.Reads as reads
-use Rattle.table.proofs.instrs.put_slot_row.Lts as lts
-use Rattle.table.proofs.put.Reads as put-reads
 
--- src/instrs.rt:106:22
-add-put : tie.Need-add-put
-add-put c = search needs
-
--- src/instrs.rt:106:5
-put-requires : tie.Need-put-requires
-put-requires c κs = search needs
-
--- src/instrs.rt:102:1
-same-length : tie.Need-same-length
-same-length c = search needs
-
--- src/instrs.rt:102:1
 returns : tie.Need-returns
 returns c = c .before .before .put .ensures ∙ ap (λ (x : ℕ). set (c .before .before .before .before .before .args .work .now) x (c .before .before .before .before .before .args .row)) (slot-row-address (c .before .before .before .before .before .args .v) (c .before .before .before .before .before .pre .0))
 
 pub put-slot-row-spec : {M : Type 1} → statement M
-put-slot-row-spec = tie.close (tie.spec add-put put-requires same-length returns)
+put-slot-row-spec = tie.close
+    (tie.spec (λ c. search needs) (λ c κs. search needs) (λ c. search needs) returns)
