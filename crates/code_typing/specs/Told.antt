@@ -7,7 +7,7 @@ use mathlib.Core.Option.{Option, none}
 use lib.ListN.{length}
 use Rattle.sheet_rules.specs.Sheet.{Instr}
 use Rattle.type_rules.specs.Typing.{Fault, firstOf, instrFault, resultFault, slotRow, slotRows, Own, InstrJudge, LineJudge, codeFaults, typedInstr, typedLines}
-use Rattle.table.specs.Layout.{slotRowAddress}
+use Rattle.table.specs.Layout.{slotRowAddress, slotRowsEnd}
 use Rattle.table.specs.Only.{Only}
 use Rattle.table.specs.Told.{slotRowsIn}
 use Rattle.table.specs.View.{instrsIn, sheetIn}
@@ -37,7 +37,7 @@ stoppedAt (InstrJudged.Refused q) n = Walked.Stopped q n
 
 -- only the rows of slots have changed
 abbrev pub OnlySlots : List ℕ → List ℕ → Type 0
-OnlySlots w w′ = Only (slotRowAddress 0) (slotRowAddress 63 + 1) w w′
+OnlySlots w w′ = Only (slotRowAddress 0) (slotRowsEnd) w w′
 
 -- lines judged by the table's word on fit: the walk is the rule's, and only rows of slots have changed
 pub record LinesJudged (faults : List Fault) (line : ℕ) (w w′ : List ℕ) (r : Walked) : Type 0 where

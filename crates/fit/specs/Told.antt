@@ -10,7 +10,7 @@ use Rattle.sheet_rules.specs.Answers.{isYes}
 use Rattle.sheet_rules.specs.RowLines.{nameOf, mentionsBelow, sameMember}
 use Rattle.sheet_rules.specs.WellFormed.{WellFormedRow}
 use Rattle.type_rules.specs.Fit.{matches, membersAnswer, rowAnswer, fits}
-use Rattle.table.specs.Layout.{rowAddress, fitAddress, tableEnd, slotRowAddress, workSize}
+use Rattle.table.specs.Layout.{memberCountAddress, tableEnd, fitAddress, slotRowAddress, workSize}
 use Rattle.table.specs.View.{cell, memberIn, rowIn, rowsIn}
 use Rattle.table.specs.Only.{Only}
 
@@ -46,14 +46,14 @@ SelfFit m w = (a : ℕ) → a < m → cell w (fitAddress a a) ≡ twoBits true t
 
 -- rows m and k have n members or more, and the first n are the same
 pub record Alike (w : List ℕ) (m k n : ℕ) : Type 0 where
-  pub first : n ≤ cell w (rowAddress m + 1)
-  pub second : n ≤ cell w (rowAddress k + 1)
+  pub first : n ≤ cell w (memberCountAddress m)
+  pub second : n ≤ cell w (memberCountAddress k)
   pub same : (t : ℕ) → t < n → memberIn w m t ≡ memberIn w k t
 
 -- and these are all that they begin with: where both have one more, it is not the same
 pub record AllAlike (w : List ℕ) (m k n : ℕ) : Type 0 where
   pub alike : Alike w m k n
-  pub differ : n < cell w (rowAddress m + 1) → n < cell w (rowAddress k + 1) → sameMember (memberIn w m n) (memberIn w k n) ≡ false
+  pub differ : n < cell w (memberCountAddress m) → n < cell w (memberCountAddress k) → sameMember (memberIn w m n) (memberIn w k n) ≡ false
 
 -- member i of row m and member j of row k are there, have one name, and mention rows that the table has
 pub record MatchAt (w : List ℕ) (m i k j : ℕ) : Type 0 where

@@ -7,7 +7,7 @@ ghost use lib.ListN.{length};
 ghost use Rattle.sheet_rules.specs.RowLines.{nameOf, mentionsBelow};
 ghost use Rattle.sheet_rules.specs.WellFormed.{WellFormedRow};
 ghost use Rattle.type_rules.specs.Fit.{kindFits};
-ghost use Rattle.table.specs.Layout.{rowAddress, fitAddress, workSize};
+ghost use Rattle.table.specs.Layout.{memberCountAddress, fitAddress, workSize};
 ghost use Rattle.table.specs.View.{cell as cellOf, memberIn, rowIn};
 ghost use Rattle.fit.specs.Told.{twoBits, firstBit, secondBit, tells, Comparable, SelfFit, AllAlike, MatchAt, BothMatch, Walked, pairFilled, pairsFilled, FitFilled};
 use sheet_rules::Kind;
@@ -79,7 +79,7 @@ fn match_at(work: &[u16], m: usize, i: usize, k: usize, j: usize) -> u16
 
 // How many members rows m and k begin with that are the same in both.
 fn alike(work: &[u16], m: usize, k: usize) -> usize
-    requires { ⌜ (m < 64) × (k < 64) × (cellOf (now work) (rowAddress m + 1) ≤ 8) × (cellOf (now work) (rowAddress k + 1) ≤ 8) × (workSize ≤ length (now work)) ⌝ }
+    requires { ⌜ (m < 64) × (k < 64) × (cellOf (now work) (memberCountAddress m) ≤ 8) × (cellOf (now work) (memberCountAddress k) ≤ 8) × (workSize ≤ length (now work)) ⌝ }
     ensures { λ r. ⌜ AllAlike (now (work .entry)) m k r ⌝ }
 {
     let across = table::rows::member_count(work, m);

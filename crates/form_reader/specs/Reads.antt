@@ -8,7 +8,7 @@ use Rattle.sheet_rules.specs.declared.Member.{Member}
 use Rattle.sheet_rules.specs.Sheet.{Row, Part, Form, noMember, rowAt, sizeOfParts, sizeOfForms}
 use Rattle.sheet_rules.specs.Reader.{Reader, _>>=_, give, one, many, existingLine}
 use Rattle.sheet_rules.specs.FormLines.{FormHeading, formLine, readPart, readForm}
-use Rattle.table.specs.Layout.{rowAddress, formAddress, partAddress, tableEnd, workSize}
+use Rattle.table.specs.Layout.{memberCountAddress, formAddress, partAddress, tableEnd, workSize}
 use Rattle.table.specs.View.{cell, rowsIn, partIn, partsIn, formIn, formsIn}
 use Rattle.table.specs.Pool.{OnlyFrom, PartsEnd, FormEnds}
 use Rattle.line_reader.specs.declared.Cursor.{Cursor}
@@ -19,7 +19,7 @@ use Rattle.reader_loop.specs.Items.{ItemRead, Items, ItemsRead}
 pub record PartsReady (w : List ℕ) (f row count keeps : ℕ) : Type 0 where
   pub form : f < 64
   pub there : row < 64
-  pub counted : cell w (rowAddress row + 1) ≡ count
+  pub counted : cell w (memberCountAddress row) ≡ count
   pub few : count ≤ 8
   pub kept : keeps ≤ 8
   pub size : workSize ≤ length w

@@ -3,7 +3,7 @@ use Prim.Native.Nat.{ℕ, _+_}
 use mathlib.Core.List.{List}
 use Rattle.sheet_rules.specs.declared.Place.{Place}
 use Rattle.sheet_rules.specs.Reader.{one, existingLine}
-use Rattle.table.specs.Layout.{formAddress, keepAddress}
+use Rattle.table.specs.Layout.{keepAddress, partAddress, keepEnd}
 use Rattle.table.specs.View.{cell}
 use Rattle.line_reader.specs.declared.Cursor.{Cursor}
 use Rattle.line_reader.specs.declared.Progress.{Progress}
@@ -12,7 +12,7 @@ use Rattle.reader_loop.specs.Items.{ItemRead, Items, ItemsRead}
 -- one kept row, read
 abbrev pub KeepRead : List ℕ → (f j rows : ℕ) → Cursor → (w w′ : List ℕ) → Progress → Type 0
 KeepRead text f j rows from w w′ r =
-    ItemRead text (one (existingLine Place.Keep rows)) (λ x. cell x (keepAddress f j)) (λ x. from .used) (keepAddress f j) (keepAddress f j + 1) from w w′ r
+    ItemRead text (one (existingLine Place.Keep rows)) (λ x. cell x (keepAddress f j)) (λ x. from .used) (keepAddress f j) (keepEnd f j) from w w′ r
 
 -- the kept rows of form f, read after `used` instructions
 abbrev pub keepItems : (f rows used : ℕ) → Items ℕ
@@ -21,8 +21,8 @@ keepItems f rows used =
       item = λ before. one (existingLine Place.Keep rows);
       value = λ x j. cell x (keepAddress f j);
       used = λ x j. used;
-      lo = formAddress f + 3;
-      hi = formAddress f + 11;
+      lo = keepAddress f 0;
+      hi = partAddress f 0;
     }
 
 -- all kept rows of a form, read

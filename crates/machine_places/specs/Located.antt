@@ -7,15 +7,15 @@ use mathlib.Core.Option.{some}
 use lib.ListN.{length}
 use Rattle.sheet_rules.specs.Sheet.{Instr, formAt, rowOfForm}
 use Rattle.machine_rules.specs.Step.{bodyIn, fieldPlace}
-use Rattle.table.specs.Layout.{formAddress, partAddress, placeAddress, tableEnd, slotRowAddress}
+use Rattle.table.specs.Layout.{partAddress, partCountAddress, bodyStartAddress, bodySizeAddress, tableEnd, placeAddress, slotRowAddress}
 use Rattle.table.specs.View.{cell, instrsIn, sheetIn}
 use Rattle.table.specs.Only.{Only}
 
 -- where a body stands: part j of form f is a body, and its instructions are the code
 pub record BodyAt (w : List ℕ) (f j : ℕ) (is : List Instr) : Type 0 where
-  pub inside : j < cell w (formAddress f + 2)
+  pub inside : j < cell w (partCountAddress f)
   pub tag : cell w (partAddress f j) ≡ 0 → ⊥
-  pub code : instrsIn w (cell w (partAddress f j + 1)) (cell w (partAddress f j + 2)) ≡ is
+  pub code : instrsIn w (cell w (bodyStartAddress f j)) (cell w (bodySizeAddress f j)) ≡ is
 
 -- the table by form and name tells, for every form of the sheet, where the body of each method stands and the place of each
 -- field

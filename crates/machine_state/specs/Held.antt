@@ -9,7 +9,7 @@ use Rattle.sheet_rules.specs.Sheet.{Sheet, formAt, rowOfForm}
 use Rattle.machine_rules.specs.State.{Object, Frame, State}
 use Rattle.machine_rules.specs.Sound.{fieldRows}
 use Rattle.machine_rules.specs.declared.Tally.{Tally}
-use Rattle.table.specs.Layout.{objectAddress, frameAddress, keptAddress, fieldAddress, slotAddress}
+use Rattle.table.specs.Layout.{objectAddress, keptAddress, fieldAddress, frameAddress, slotAddress, filledAddress, nextAddress, endAddress}
 use Rattle.table.specs.View.{cell, instrsIn}
 use Rattle.machine_state.specs.declared.Top.{Top}
 
@@ -51,9 +51,9 @@ abbrev pub topIn : List ℕ → ℕ → Top
 topIn w f =
     record {
       own = cell w (frameAddress f);
-      filled = cell w (frameAddress f + 1);
-      next = cell w (frameAddress f + 2);
-      end = cell w (frameAddress f + 3);
+      filled = cell w (filledAddress f);
+      next = cell w (nextAddress f);
+      end = cell w (endAddress f);
     }
 
 -- the frame in hand, with its next instruction taken; and with one slot more as well
@@ -76,4 +76,4 @@ stateIn s w t k =
 -- the buffer after frame f is kept
 unfoldable pub savedPut : List ℕ → ℕ → Top → List ℕ
 savedPut w f t =
-    set (set (set (set w (frameAddress f) (t .own)) (frameAddress f + 1) (t .filled)) (frameAddress f + 2) (t .next)) (frameAddress f + 3) (t .end)
+    set (set (set (set w (frameAddress f) (t .own)) (filledAddress f) (t .filled)) (nextAddress f) (t .next)) (endAddress f) (t .end)

@@ -4,7 +4,7 @@ use mathlib.Core.Path.{_≡_}
 use mathlib.Core.List.{List, [], _∷_}
 use lib.ListN.{length, getD, set}
 use Rattle.sheet_rules.specs.Sheet.{Part, init, body}
-use Rattle.table.specs.Layout.{formAddress, workSize, keptAddress, fieldAddress, slotAddress}
+use Rattle.table.specs.Layout.{partCountAddress, keptAddress, fieldAddress, slotAddress, workSize}
 use Rattle.table.specs.View.{cell, partIn}
 use Rattle.table.specs.Told.{newSlots}
 use Rattle.table.specs.Only.{Only}
@@ -39,8 +39,8 @@ pub record PartStarts (w : List ℕ) (g o j i : ℕ) : Type 0 where
 pub record FormStarts (w : List ℕ) (g o : ℕ) : Type 0 where
   pub form : g < 64
   pub object : o < 256
-  pub parts : cell w (formAddress g + 2) ≤ 8
-  pub kept : (j k : ℕ) → j < cell w (formAddress g + 2) → partIn w g j ≡ init k → k < 8
+  pub parts : cell w (partCountAddress g) ≤ 8
+  pub kept : (j k : ℕ) → j < cell w (partCountAddress g) → partIn w g j ≡ init k → k < 8
   pub size : workSize ≤ length w
 
 -- the buffer after a part of object o's form is done, where i fields come before it: an `init` puts its kept value into field i

@@ -6,7 +6,7 @@ use Rattle.sheet_rules.specs.Sheet.{Instr}
 use Rattle.machine_rules.specs.declared.Tally.{Tally}
 use Rattle.machine_rules.specs.Step.{Action, step, nextStep}
 use Rattle.machine_rules.specs.Sound.{Sound}
-use Rattle.table.specs.Layout.{objectAddress, frameAddress, stateEnd}
+use Rattle.table.specs.Layout.{objectAddress, endAddress, stateEnd}
 use Rattle.table.specs.View.{cell, instrIn, sheetIn}
 use Rattle.table.specs.Only.{Only}
 use Rattle.accepted.specs.Accepted.{AcceptedIn}
@@ -18,7 +18,7 @@ use Rattle.machine_state.specs.Held.{stateIn}
 pub record Ending (w : List ℕ) (t : Top) (k : Tally) : Type 0 where
   pub frames : 1 ≤ k .frames
   pub top : t .end ≤ 1024
-  pub below : (f : ℕ) → suc f < k .frames → cell w (frameAddress f + 3) ≤ 1024
+  pub below : (f : ℕ) → suc f < k .frames → cell w (endAddress f) ≤ 1024
 
 -- a buffer that holds an accepted sheet, with the members located, and a sound state
 pub record Running (w : List ℕ) (t : Top) (k : Tally) : Type 0 where

@@ -3,7 +3,7 @@ ghost use mathlib.Core.Path.{_≡_};
 ghost use Prim.Native.Nat.{_<_, _+_};
 ghost use Rattle.sheet_rules.specs.Sheet.{new};
 ghost use Rattle.machine_rules.specs.Steps.{created};
-ghost use Rattle.table.specs.Layout.{formAddress};
+ghost use Rattle.table.specs.Layout.{partCountAddress};
 ghost use Rattle.table.specs.View.{cell as cellOf, partIn, partsIn};
 ghost use Rattle.table.specs.Told.{newSlots};
 ghost use Rattle.machine_steps.specs.Running.{Facing, Took};
@@ -61,7 +61,7 @@ fn start_field(work: &mut [u16], form: usize, o: usize, j: usize, fields: usize)
 // Starts the fields of object o.
 fn start_fields(work: &mut [u16], form: usize, o: usize)
     requires { ⌜ FormStarts (now work) form o ⌝ }
-    ensures { λ r. ⌜ now (work .exit) ≡ fieldsStarted (now (work .entry)) o (partsIn (now (work .entry)) form (cellOf (now (work .entry)) (formAddress form + 2))) 0 ⌝ }
+    ensures { λ r. ⌜ now (work .exit) ≡ fieldsStarted (now (work .entry)) o (partsIn (now (work .entry)) form (cellOf (now (work .entry)) (partCountAddress form))) 0 ⌝ }
 {
     let count = part_count(work, form);
     let mut fields: usize = 0;

@@ -6,7 +6,7 @@ ghost use lib.Dec.{eqb};
 ghost use lib.ListN.{length};
 ghost use Rattle.sheet_rules.specs.RowLines.{nameOf, twin, mentionsBelow};
 ghost use Rattle.line_judges.specs.Told.{Lowest};
-ghost use Rattle.table.specs.Layout.{rowAddress, workSize};
+ghost use Rattle.table.specs.Layout.{memberCountAddress, workSize};
 ghost use Rattle.table.specs.View.{cell as cellOf, membersIn, rowIn, rowsIn};
 use sheet_rules::Member;
 
@@ -58,7 +58,7 @@ pub fn mentions_below(i: usize, m: Member) -> bool
 
 // Row i is complete after its member j, and has a twin.
 pub fn completes_twin(work: &[u16], i: usize, j: usize, count: usize) -> bool
-    requires { ⌜ (i < 64) × (j < 8) × (cellOf (now work) (rowAddress i + 1) ≤ 8) × (workSize ≤ length (now work)) ⌝ }
+    requires { ⌜ (i < 64) × (j < 8) × (cellOf (now work) (memberCountAddress i) ≤ 8) × (workSize ≤ length (now work)) ⌝ }
     ensures { λ r. ⌜ r ≡ (eqb (suc j) count && twin (rowsIn (now (work .entry)) i) (rowIn (now (work .entry)) i)) ⌝ }
 {
     if j + 1 == count {
@@ -69,7 +69,7 @@ pub fn completes_twin(work: &[u16], i: usize, j: usize, count: usize) -> bool
 
 // Row i has no members, and a twin.
 pub fn lone_twin(work: &[u16], i: usize, count: usize) -> bool
-    requires { ⌜ (i < 64) × (cellOf (now work) (rowAddress i + 1) ≤ 8) × (workSize ≤ length (now work)) ⌝ }
+    requires { ⌜ (i < 64) × (cellOf (now work) (memberCountAddress i) ≤ 8) × (workSize ≤ length (now work)) ⌝ }
     ensures { λ r. ⌜ r ≡ (eqb count 0 && twin (rowsIn (now (work .entry)) i) (rowIn (now (work .entry)) i)) ⌝ }
 {
     if count == 0 {

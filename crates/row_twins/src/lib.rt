@@ -3,7 +3,7 @@ ghost use mathlib.Core.Path.{_≡_};
 ghost use Prim.Native.Nat.{_≤_, _<_, _+_};
 ghost use lib.ListN.{length};
 ghost use Rattle.sheet_rules.specs.RowLines.{sameKind, sameMember, sameMembers, sameRow, twin};
-ghost use Rattle.table.specs.Layout.{rowAddress, workSize};
+ghost use Rattle.table.specs.Layout.{memberCountAddress, workSize};
 ghost use Rattle.table.specs.View.{cell as cellOf, membersIn, rowIn, rowsIn};
 use sheet_rules::Kind;
 use sheet_rules::Member;
@@ -101,7 +101,7 @@ fn same_members(work: &[u16], a: usize, b: usize, count: usize) -> bool
 
 // Two rows are the same.
 fn same_row(work: &[u16], a: usize, b: usize) -> bool
-    requires { ⌜ (a < 64) × (b < 64) × (cellOf (now work) (rowAddress b + 1) ≤ 8) × (workSize ≤ length (now work)) ⌝ }
+    requires { ⌜ (a < 64) × (b < 64) × (cellOf (now work) (memberCountAddress b) ≤ 8) × (workSize ≤ length (now work)) ⌝ }
     ensures { λ r. ⌜ r ≡ sameRow (rowIn (now (work .entry)) a) (rowIn (now (work .entry)) b) ⌝ }
 {
     if !same_kind(
@@ -120,7 +120,7 @@ fn same_row(work: &[u16], a: usize, b: usize) -> bool
 
 // Row i equals a row before it.
 pub fn has_twin(work: &[u16], i: usize) -> bool
-    requires { ⌜ (i < 64) × (cellOf (now work) (rowAddress i + 1) ≤ 8) × (workSize ≤ length (now work)) ⌝ }
+    requires { ⌜ (i < 64) × (cellOf (now work) (memberCountAddress i) ≤ 8) × (workSize ≤ length (now work)) ⌝ }
     ensures { λ r. ⌜ r ≡ twin (rowsIn (now (work .entry)) i) (rowIn (now (work .entry)) i) ⌝ }
 {
     let mut k = 0;

@@ -1,6 +1,6 @@
 -- Where everything lies in the 32,768 numbers of the work buffer. Every place is clamped into its own part, so that parts never
--- overlap, whatever the numbers in them are. The address of each thing is said here; which of its numbers is which, in View and Stores.
--- Stands on nothing.
+-- overlap, whatever the numbers in them are. The rules of the view and of the stores say every
+-- address by these names. Stands on nothing.
 use Prim.Native.Nat.{ℕ, _+_, _*_, min}
 
 -- the sheet's counts: rows, forms, where main's instructions begin, and how many they are
@@ -23,6 +23,15 @@ rowAddress i = 16 + 36 * min i 63
 abbrev pub memberAddress : ℕ → ℕ → ℕ
 memberAddress i j = rowAddress i + (4 + 4 * min j 7)
 
+abbrev pub memberCountAddress : ℕ → ℕ
+memberCountAddress i = rowAddress i + 1
+
+abbrev pub memberEnd : ℕ → ℕ → ℕ
+memberEnd i j = memberAddress i j + 4
+
+abbrev pub rowEnd : ℕ → ℕ
+rowEnd i = rowAddress i + 36
+
 -- 64 forms of 36: row, number of kept values, number of parts, 8 kept rows, and 8 parts of 3 (kind of part, and its kept value;
 -- or where the body's instructions begin, and how many they are)
 abbrev pub formAddress : ℕ → ℕ
@@ -34,9 +43,37 @@ keepAddress f j = formAddress f + (3 + min j 7)
 abbrev pub partAddress : ℕ → ℕ → ℕ
 partAddress f j = formAddress f + (11 + 3 * min j 7)
 
+abbrev pub keepCountAddress : ℕ → ℕ
+keepCountAddress f = formAddress f + 1
+
+abbrev pub partCountAddress : ℕ → ℕ
+partCountAddress f = formAddress f + 2
+
+abbrev pub keepEnd : ℕ → ℕ → ℕ
+keepEnd f j = keepAddress f j + 1
+
+abbrev pub bodyStartAddress : ℕ → ℕ → ℕ
+bodyStartAddress f j = partAddress f j + 1
+
+abbrev pub bodySizeAddress : ℕ → ℕ → ℕ
+bodySizeAddress f j = partAddress f j + 2
+
 -- 1,024 instructions of 11: the operation's code, how many numbers, and 9 numbers
 abbrev pub instrAddress : ℕ → ℕ
 instrAddress p = 4624 + 11 * min p 1023
+
+abbrev pub numberCountAddress : ℕ → ℕ
+numberCountAddress p = instrAddress p + 1
+
+abbrev pub numberAddress : ℕ → ℕ → ℕ
+numberAddress p k = instrAddress p + (2 + k)
+
+abbrev pub instrEnd : ℕ → ℕ
+instrEnd p = instrAddress p + 11
+
+-- where `count` instructions from p on end
+abbrev pub instrsEnd : ℕ → ℕ → ℕ
+instrsEnd p count = instrAddress p + 11 * count
 
 -- where the instructions from p on begin, which for p 1,024 is where they end
 abbrev pub poolAddress : ℕ → ℕ
@@ -58,6 +95,9 @@ placeAddress f n = fitAddress f n
 abbrev pub slotRowAddress : ℕ → ℕ
 slotRowAddress v = 19984 + min v 63
 
+abbrev pub slotRowsEnd : ℕ
+slotRowsEnd = 20048
+
 -- 256 objects of 17: form, 8 kept values, 8 fields
 abbrev pub objectAddress : ℕ → ℕ
 objectAddress o = 20048 + 17 * min o 255
@@ -68,12 +108,21 @@ keptAddress o i = objectAddress o + (1 + min i 7)
 abbrev pub fieldAddress : ℕ → ℕ → ℕ
 fieldAddress o i = objectAddress o + (9 + min i 7)
 
--- 64 frames of 48: four of its own, and up to 44 slots
+-- 64 frames of 48: its receiver, how many slots are filled, its next instruction, the end of its code, and up to 44 slots
 abbrev pub frameAddress : ℕ → ℕ
 frameAddress f = 24400 + 48 * min f 63
 
 abbrev pub slotAddress : ℕ → ℕ → ℕ
 slotAddress f v = frameAddress f + (4 + min v 43)
+
+abbrev pub filledAddress : ℕ → ℕ
+filledAddress f = frameAddress f + 1
+
+abbrev pub nextAddress : ℕ → ℕ
+nextAddress f = frameAddress f + 2
+
+abbrev pub endAddress : ℕ → ℕ
+endAddress f = frameAddress f + 3
 
 -- the machine's state ends here
 abbrev pub stateEnd : ℕ

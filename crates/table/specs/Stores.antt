@@ -4,12 +4,12 @@ use mathlib.Core.List.{List}
 use lib.ListN.{set}
 use Rattle.sheet_rules.specs.declared.MemberKind.{MemberKind}
 use Rattle.sheet_rules.specs.declared.Operation.{Operation}
-use Rattle.table.specs.Layout.{rowCountAt, mainCountAt, rowAddress, memberAddress, formAddress, partAddress, instrAddress}
+use Rattle.table.specs.Layout.{rowCountAt, mainCountAt, rowAddress, memberAddress, memberCountAddress, formAddress, partAddress, instrAddress, numberCountAddress}
 use Rattle.table.specs.View.{kindTag, operationCode}
 
 -- a row's kind, and how many members it has
 abbrev pub rowHeadPut : List ℕ → ℕ → ℕ → ℕ → List ℕ
-rowHeadPut w i kind members = set (set w (rowAddress i) kind) (rowAddress i + 1) members
+rowHeadPut w i kind members = set (set w (rowAddress i) kind) (memberCountAddress i) members
 
 -- a member's kind, its name, and its one or two rows
 abbrev pub memberPut : List ℕ → ℕ → ℕ → MemberKind → ℕ → ℕ → ℕ → List ℕ
@@ -18,7 +18,7 @@ memberPut w i j kind name first second =
 
 -- an instruction's operation, and how many numbers it has
 abbrev pub operationPut : List ℕ → ℕ → Operation → ℕ → List ℕ
-operationPut w p operation count = set (set w (instrAddress p) (operationCode operation)) (instrAddress p + 1) count
+operationPut w p operation count = set (set w (instrAddress p) (operationCode operation)) (numberCountAddress p) count
 
 -- three numbers from a place on
 unfoldable pub threePut : List ℕ → ℕ → ℕ → ℕ → ℕ → List ℕ

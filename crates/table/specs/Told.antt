@@ -7,12 +7,12 @@ use Rattle.lists.specs.Tab.{tab}
 use Rattle.sheet_rules.specs.Sheet.{Instr, new, call, get, put, copy, Part, init, body}
 use Rattle.table.specs.declared.instrs.Instruction.{Instruction}
 use Rattle.table.specs.declared.forms.PartPlace.{PartPlace}
-use Rattle.table.specs.Layout.{instrAddress, slotRowAddress}
+use Rattle.table.specs.Layout.{instrAddress, numberCountAddress, slotRowAddress}
 use Rattle.table.specs.View.{cell, numbersIn, instrIn, instrsIn}
 
 -- the slots that a `new` at place p of the pool names
 unfoldable pub newSlots : List ℕ → ℕ → List ℕ
-newSlots w p = drop 1 (take (cell w (instrAddress p + 1)) (numbersIn w p))
+newSlots w p = drop 1 (take (cell w (numberCountAddress p)) (numbersIn w p))
 
 -- an instruction, with the slots of a `new`
 abbrev pub instrTold : List ℕ → Instruction → Instr

@@ -13,7 +13,7 @@ use Rattle.sheet_rules.specs.declared.Operation.the-variants.{New, Call, Get, P
 use Rattle.sheet_rules.specs.Sheet.{Row, Instr, new, call, get, put, copy, Part, init, body, Form, Sheet}
 use Rattle.sheet_rules.specs.Reader.{nth}
 use Rattle.sheet_rules.specs.RowLines.{kindOf}
-use Rattle.table.specs.Layout.{rowCountAt, formCountAt, mainStartAt, mainCountAt, rowAddress, memberAddress, formAddress, keepAddress, partAddress, instrAddress}
+use Rattle.table.specs.Layout.{rowCountAt, formCountAt, mainStartAt, mainCountAt, rowAddress, memberAddress, memberCountAddress, formAddress, keepAddress, partAddress, keepCountAddress, partCountAddress, bodyStartAddress, bodySizeAddress, instrAddress, numberCountAddress, numberAddress}
 
 -- the number at a place; 0 past the end
 abbrev pub cell : List ℕ → ℕ → ℕ
@@ -39,7 +39,7 @@ membersIn w i n = tab (memberIn w i) n
 
 -- row i
 unfoldable pub rowIn : List ℕ → ℕ → Row
-rowIn w i = record { kind = kindOf (cell w (rowAddress i)); members = membersIn w i (cell w (rowAddress i + 1)) }
+rowIn w i = record { kind = kindOf (cell w (rowAddress i)); members = membersIn w i (cell w (memberCountAddress i)) }
 
 -- the first n rows
 abbrev pub rowsIn : List ℕ → ℕ → List Row
@@ -47,7 +47,7 @@ rowsIn w n = tab (rowIn w) n
 
 -- the nine numbers of instruction p
 abbrev pub numbersIn : List ℕ → ℕ → List ℕ
-numbersIn w p = tab (λ k. cell w (instrAddress p + (2 + k))) 9
+numbersIn w p = tab (λ k. cell w (numberAddress p k)) 9
 
 -- how an operation is stored
 abbrev pub operationCode : Operation → ℕ
@@ -67,7 +67,7 @@ instrFrom code count ns =
 
 -- instruction p of the pool
 unfoldable pub instrIn : List ℕ → ℕ → Instr
-instrIn w p = instrFrom (cell w (instrAddress p)) (cell w (instrAddress p + 1)) (numbersIn w p)
+instrIn w p = instrFrom (cell w (instrAddress p)) (cell w (numberCountAddress p)) (numbersIn w p)
 
 -- n instructions from p on
 abbrev pub instrsIn : List ℕ → ℕ → ℕ → List Instr
@@ -79,7 +79,7 @@ partFrom w tag a b = cond (eqb tag 0) (init a) (body (instrsIn w a b))
 
 -- part j of form f
 unfoldable pub partIn : List ℕ → ℕ → ℕ → Part
-partIn w f j = partFrom w (cell w (partAddress f j)) (cell w (partAddress f j + 1)) (cell w (partAddress f j + 2))
+partIn w f j = partFrom w (cell w (partAddress f j)) (cell w (bodyStartAddress f j)) (cell w (bodySizeAddress f j))
 
 -- the first n kept rows of form f
 abbrev pub keepsIn : List ℕ → ℕ → ℕ → List ℕ
@@ -94,8 +94,8 @@ unfoldable pub formIn : List ℕ → ℕ → Form
 formIn w f =
     record {
       row = cell w (formAddress f);
-      keeps = keepsIn w f (cell w (formAddress f + 1));
-      parts = partsIn w f (cell w (formAddress f + 2));
+      keeps = keepsIn w f (cell w (keepCountAddress f));
+      parts = partsIn w f (cell w (partCountAddress f));
     }
 
 -- the first n forms

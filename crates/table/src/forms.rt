@@ -3,7 +3,7 @@ ghost use mathlib.Core.Path.{_≡_};
 ghost use Prim.Native.Nat.{_≤_, _<_, _+_};
 ghost use lib.ListN.{length, getD};
 ghost use Rattle.sheet_rules.specs.Sheet.{formAt};
-ghost use Rattle.table.specs.Layout.{formAddress, partAddress, workSize};
+ghost use Rattle.table.specs.Layout.{partCountAddress, bodyStartAddress, bodySizeAddress, workSize};
 ghost use Rattle.table.specs.Told.{partTold};
 ghost use Rattle.table.specs.View.{cell as cellOf, partIn, sheetIn};
 ghost use Rattle.table.specs.Whole.{Whole};
@@ -86,7 +86,7 @@ pub fn part(work: &[u16], f: usize, j: usize) -> PartPlace
 // How many parts form f has.
 pub fn part_count(work: &[u16], f: usize) -> usize
     requires { ⌜ (f < 64) × (workSize ≤ length (now work)) ⌝ }
-    ensures { λ r. ⌜ r ≡ cellOf (now (work .entry)) (formAddress f + 2) ⌝ }
+    ensures { λ r. ⌜ r ≡ cellOf (now (work .entry)) (partCountAddress f) ⌝ }
 {
     wide(work[2320 + 36 * f + 2])
 }
@@ -94,7 +94,7 @@ pub fn part_count(work: &[u16], f: usize) -> usize
 // Where the instructions of part j of form f begin, if it is a body.
 pub fn body_start(work: &[u16], f: usize, j: usize) -> usize
     requires { ⌜ (f < 64) × (j < 8) × (workSize ≤ length (now work)) ⌝ }
-    ensures { λ r. ⌜ r ≡ cellOf (now (work .entry)) (partAddress f j + 1) ⌝ }
+    ensures { λ r. ⌜ r ≡ cellOf (now (work .entry)) (bodyStartAddress f j) ⌝ }
 {
     wide(work[2320 + 36 * f + (11 + 3 * j) + 1])
 }
@@ -102,7 +102,7 @@ pub fn body_start(work: &[u16], f: usize, j: usize) -> usize
 // How many they are.
 pub fn body_count(work: &[u16], f: usize, j: usize) -> usize
     requires { ⌜ (f < 64) × (j < 8) × (workSize ≤ length (now work)) ⌝ }
-    ensures { λ r. ⌜ r ≡ cellOf (now (work .entry)) (partAddress f j + 2) ⌝ }
+    ensures { λ r. ⌜ r ≡ cellOf (now (work .entry)) (bodySizeAddress f j) ⌝ }
 {
     wide(work[2320 + 36 * f + (11 + 3 * j) + 2])
 }

@@ -2,7 +2,7 @@
 ghost use mathlib.Core.Path.{_≡_};
 ghost use Prim.Native.Nat.{_≤_, _<_, _+_, min};
 ghost use lib.ListN.{length};
-ghost use Rattle.table.specs.Layout.{rowCountAt, rowAddress, memberAddress, fitAddress, workSize};
+ghost use Rattle.table.specs.Layout.{rowCountAt, memberAddress, memberCountAddress, fitAddress, workSize};
 ghost use Rattle.table.specs.View.{cell as cellOf, memberIn, rowIn, sheetIn};
 ghost use Rattle.table.specs.Whole.{Whole};
 ghost use Rattle.sheet_rules.specs.RowLines.{nameOf};
@@ -40,7 +40,7 @@ pub fn row_kind(work: &[u16], i: usize) -> Kind
 // How many members row i has.
 pub fn member_count(work: &[u16], i: usize) -> usize
     requires { ⌜ (i < 64) × (workSize ≤ length (now work)) ⌝ }
-    ensures { λ r. ⌜ r ≡ cellOf (now (work .entry)) (rowAddress i + 1) ⌝ }
+    ensures { λ r. ⌜ r ≡ cellOf (now (work .entry)) (memberCountAddress i) ⌝ }
 {
     let at = 16 + 36 * i + 1;
     wide(work[at])

@@ -2,7 +2,7 @@
 ghost use mathlib.Core.Path.{_≡_};
 ghost use Prim.Native.Nat.{_<_, _+_, _≤_};
 ghost use lib.ListN.{length, set};
-ghost use Rattle.table.specs.Layout.{keepAddress, instrAddress, workSize};
+ghost use Rattle.table.specs.Layout.{keepAddress, numberAddress, workSize};
 ghost use Rattle.table.specs.Stores.{rowHeadPut, memberPut, operationPut, threePut, headingPut, partPut, countsPut};
 ghost use Rattle.table.specs.View.{kindTag, operationCode};
 use crate::instrs::instr_address;
@@ -96,7 +96,7 @@ pub fn put_operation(work: &mut [u16], p: usize, operation: Operation, count: u1
 // Number k of instruction p.
 pub fn put_number(work: &mut [u16], p: usize, k: usize, n: u16)
     requires { ⌜ (p < 1024) × (k < 9) × (workSize ≤ length (now work)) ⌝ }
-    ensures { λ r. ⌜ now (work .exit) ≡ set (now (work .entry)) (instrAddress p + (2 + k)) n ⌝ }
+    ensures { λ r. ⌜ now (work .exit) ≡ set (now (work .entry)) (numberAddress p k) n ⌝ }
 {
     let at = instr_address(p);
     put(work, at + (2 + k), n);
