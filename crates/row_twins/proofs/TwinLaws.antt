@@ -14,7 +14,7 @@ use Rattle.sheet_rules.specs.declared.Member.{Member}
 use Rattle.sheet_rules.specs.declared.Member.the-variants.{Method, Field}
 use Rattle.sheet_rules.specs.Sheet.{Row}
 use Rattle.sheet_rules.specs.RowLines.{sameKind, sameMember, sameMembers, sameRow, twin}
-use Rattle.table.specs.Layout.{rowAddress}
+use Rattle.table.specs.Layout.{memberCountAddress}
 use Rattle.table.specs.View.{cell, memberIn, membersIn, rowIn}
 
 -- members of as many each, with one more at the end
@@ -111,24 +111,28 @@ module _ (f : ℕ → Row) (a : Row) where
 
 -- two rows of the table, by kind, number of members, and members
 
+and-false : (b : Bool) → (b && false) ≡ false
+and-false true = refl
+and-false false = refl
+
 module _ (w : List ℕ) (a b : ℕ) where
   pub rows-kind : sameKind ((rowIn w a) .kind) ((rowIn w b) .kind) ≡ false → sameRow (rowIn w a) (rowIn w b) ≡ false
   rows-kind e = ap (λ (x : Bool). x && sameMembers ((rowIn w a) .members) ((rowIn w b) .members)) e
 
-  module _ (e : sameKind ((rowIn w a) .kind) ((rowIn w b) .kind) ≡ true) where
-    pub rows-count : (cell w (rowAddress a + 1) ≡ cell w (rowAddress b + 1) → ⊥) → sameRow (rowIn w a) (rowIn w b) ≡ false
-    unfolding rowIn
-    rows-count ne =
-        ap (λ (x : Bool). x && sameMembers ((rowIn w a) .members) ((rowIn w b) .members)) e
-        ∙ members-length _ _
-        (λ p. ne (sym (length-tab (memberIn w a) (cell w (rowAddress a + 1))) ∙ p ∙ length-tab (memberIn w b) (cell w (rowAddress b + 1))))
+  pub rows-count : (cell w (memberCountAddress a) ≡ cell w (memberCountAddress b) → ⊥) → sameRow (rowIn w a) (rowIn w b) ≡ false
+  unfolding rowIn
+  rows-count ne =
+      ap (λ (x : Bool). sameKind ((rowIn w a) .kind) ((rowIn w b) .kind) && x)
+      (members-length _ _
+      (λ p. ne (sym (length-tab (memberIn w a) (cell w (memberCountAddress a))) ∙ p ∙ length-tab (memberIn w b) (cell w (memberCountAddress b)))))
+      ∙ and-false (sameKind ((rowIn w a) .kind) ((rowIn w b) .kind))
 
-    pub rows-members : cell w (rowAddress a + 1) ≡ cell w (rowAddress b + 1)
-        → sameRow (rowIn w a) (rowIn w b) ≡ sameMembers (membersIn w a (cell w (rowAddress b + 1))) (membersIn w b (cell w (rowAddress b + 1)))
-    unfolding rowIn
-    rows-members p =
-        ap (λ (x : Bool). x && sameMembers ((rowIn w a) .members) ((rowIn w b) .members)) e
-        ∙ ap (λ (n : ℕ). sameMembers (membersIn w a n) (membersIn w b (cell w (rowAddress b + 1)))) p
+  pub rows-members : sameKind ((rowIn w a) .kind) ((rowIn w b) .kind) ≡ true → cell w (memberCountAddress a) ≡ cell w (memberCountAddress b)
+      → sameRow (rowIn w a) (rowIn w b) ≡ sameMembers (membersIn w a (cell w (memberCountAddress b))) (membersIn w b (cell w (memberCountAddress b)))
+  unfolding rowIn
+  rows-members e p =
+      ap (λ (x : Bool). x && sameMembers ((rowIn w a) .members) ((rowIn w b) .members)) e
+      ∙ ap (λ (n : ℕ). sameMembers (membersIn w a n) (membersIn w b (cell w (memberCountAddress b)))) p
 
 -- two members that are the same are equal
 pub member-equal : (x y : Member) → sameMember x y ≡ true → x ≡ y

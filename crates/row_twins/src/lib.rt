@@ -99,23 +99,23 @@ fn same_members(work: &[u16], a: usize, b: usize, count: usize) -> bool
     true
 }
 
-// Two rows are the same.
+// Two rows are the same. Their counts come first: in a loop over `a` the compiler then reads row b's once.
 fn same_row(work: &[u16], a: usize, b: usize) -> bool
     requires { ⌜ (a < 64) × (b < 64) × (cellOf (now work) (memberCountAddress b) ≤ 8) × (workSize ≤ length (now work)) ⌝ }
     ensures { λ r. ⌜ r ≡ sameRow (rowIn (now (work .entry)) a) (rowIn (now (work .entry)) b) ⌝ }
 {
+    let m = table::rows::member_count(work, a);
+    let n = table::rows::member_count(work, b);
+    if m != n {
+        return false;
+    }
     if !same_kind(
         table::rows::row_kind(work, a),
         table::rows::row_kind(work, b),
     ) {
         return false;
     }
-    let m = table::rows::member_count(work, a);
-    let n = table::rows::member_count(work, b);
-    if m == n {
-        return same_members(work, a, b, n);
-    }
-    false
+    same_members(work, a, b, n)
 }
 
 // Row i equals a row before it.
