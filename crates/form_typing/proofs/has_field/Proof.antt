@@ -29,16 +29,14 @@ member-requires c κs =
 
 returns : tie.Need-returns Inv-loop μ-loop
 returns c =
-    let b = c .before .before .before .before .before .before .before in
-    let loop = c .before .before .before .before in
+    let b = c .before .before .before .before .before .before .before in let loop = c .before .before .before .before in
     let j = loop .loop .j in
     let k : j < length (membersAt (sheetIn (b .args .work .now)) (b .args .a)) = omega (arith, c .before .before .before .loop-test .taken, loop .before .members-at .ensures .0) in
     field-hit (membersAt (sheetIn (b .args .work .now)) (b .args .a)) j (loop .loop .inv) k (c .before .before .member .ensures ∙ sym (member-there (b .args .work .now) (b .pre) (b .args .a) j k)) (sym (c .before .is-field .ensures) ∙ c .if1 .taken)
 
 loop-again : tie.Need-loop-again Inv-loop μ-loop
 loop-again c =
-    let b = c .before .before .before .before .before .before .before in
-    let loop = c .before .before .before .before in
+    let b = c .before .before .before .before .before .before .before in let loop = c .before .before .before .before in
     let j = loop .loop .j in
     let k : j < length (membersAt (sheetIn (b .args .work .now)) (b .args .a)) = omega (arith, c .before .before .before .loop-test .taken, loop .before .members-at .ensures .0) in
     field-next (membersAt (sheetIn (b .args .work .now)) (b .args .a)) j (loop .loop .inv) k (c .before .before .member .ensures ∙ sym (member-there (b .args .work .now) (b .pre) (b .args .a) j k)) (sym (c .before .is-field .ensures) ∙ c .if1 .left)

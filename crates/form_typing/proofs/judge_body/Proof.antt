@@ -13,9 +13,7 @@ judge-code-requires c κs =
 
 returns : tie.Need-returns
 returns c =
-    let slots = c .before .before .before .before .before .before .before in
-    let row = slots .before .before in
-    let b = row .before .before .before in
+    let slots = c .before .before .before .before .before .before .before in let row = slots .before .before in let b = row .before .before .before in
     body-judged (b .args .result) (b .args .start) (row .form-row .ensures) (slots .put-slots .ensures) (c .before .before .before .wide .ensures) (c .before .before .judge-code .ensures)
 
 pub judge-body-spec : {M : Type 1} → statement M

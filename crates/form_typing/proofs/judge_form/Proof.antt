@@ -13,21 +13,17 @@ returns c =
 
 judge-keeps-requires : tie.Need-judge-keeps-requires
 judge-keeps-requires c κs =
-    let h = c .before .before .before .before in
-    let b = h .before .before .before .before .before in
+    let h = c .before .before .before .before in let b = h .before .before .before .before .before in
     (b .pre .0, omega (arith, b .pre .2, head-next (b .args .work .now) (b .args .f) (b .args .line) (h .before .wide .ensures ∙ h .before .before .form-row .ensures) (h .judge-head .ensures) (c .before .before .head .given .1)))
 
 returns-2 : tie.Need-returns-2
 returns-2 c =
-    let on = c .before .before .before .before .before in
-    let h = on .before .before in
-    let b = h .before .before .before .before .before in
+    let on = c .before .before .before .before .before in let h = on .before .before in let b = h .before .before .before .before .before in
     keeps-stopped (b .args .work .now) (b .args .f) (b .args .line) (h .before .wide .ensures ∙ h .before .before .form-row .ensures) (h .judge-head .ensures) (on .head .given .1) (c .before .before .judge-keeps .ensures) (c .enum-told2 .given .1)
 
 judge-parts-requires : tie.Need-judge-parts-requires
 judge-parts-requires c κs =
-    let on = c .before .before .before .before .before .before .before in
-    let h = on .before .before in
+    let on = c .before .before .before .before .before .before .before in let h = on .before .before in
     let b = h .before .before .before .before .before in
     let row = h .before .wide .ensures ∙ h .before .before .form-row .ensures in (
       b .pre .0,
@@ -43,9 +39,7 @@ judge-parts-requires c κs =
 
 returns-3 : tie.Need-returns-3
 returns-3 c =
-    let k = c .before .before .before .before .before in
-    let on = k .before .before .before .before .before in
-    let h = on .before .before in
+    let k = c .before .before .before .before .before in let on = k .before .before .before .before .before in let h = on .before .before in
     let b = h .before .before .before .before .before in
     form-judged (b .args .work .now) (b .args .f) (b .args .line) (h .before .wide .ensures ∙ h .before .before .form-row .ensures) (h .judge-head .ensures) (on .head .given .1) (k .before .before .judge-keeps .ensures) (k .keeps .given .1) (c .before .before .judge-parts .ensures)
 

@@ -37,20 +37,17 @@ may-keep-requires c κs = let b = c .before .before .before .before .before .bef
 
 returns : tie.Need-returns Inv-loop μ-loop
 returns c =
-    let loop = c .before .before .before .before in
-    let b = loop .before .before .before in
+    let loop = c .before .before .before .before in let b = loop .before .before .before in
     keeps-stop (loop .before .loop .inv) (omega (arith, loop .loop-test .taken, loop .before .before .keep-count .ensures .0)) (b .is-pure .ensures ∙ ap (λ (a : ℕ). isPure ((rowAt ((sheetIn (b .before .before .before .before .args .work .now)) .rows) a) .kind)) (b .before .wide .ensures ∙ b .before .before .form-row .ensures)) (c .before .before .wide2 .ensures ∙ c .before .before .before .keep .ensures) (c .before .may-keep .ensures) (not-true _ (c .if1 .taken))
 
 add-line : tie.Need-add-line Inv-loop μ-loop
 add-line c =
-    let loop = c .before .before .before .before in
-    let b = loop .before .before .before .before .before .before .before in
+    let loop = c .before .before .before .before in let b = loop .before .before .before .before .before .before .before in
     omega (arith, loop .before .loop .inv .lined, b .pre .1, loop .loop-test .taken, loop .before .before .keep-count .ensures .1)
 
 loop-again : tie.Need-loop-again Inv-loop μ-loop
 loop-again c =
-    let loop = c .before .before .before .before in
-    let b = loop .before .before .before in
+    let loop = c .before .before .before .before in let b = loop .before .before .before in
     keeps-next (loop .before .loop .inv) (omega (arith, loop .loop-test .taken, loop .before .before .keep-count .ensures .0)) (b .is-pure .ensures ∙ ap (λ (a : ℕ). isPure ((rowAt ((sheetIn (b .before .before .before .before .args .work .now)) .rows) a) .kind)) (b .before .wide .ensures ∙ b .before .before .form-row .ensures)) (c .before .before .wide2 .ensures ∙ c .before .before .before .keep .ensures) (c .before .may-keep .ensures) (not-false _ (c .if1 .left))
 
 returns-2 : tie.Need-returns-2 Inv-loop μ-loop

@@ -10,8 +10,7 @@ judge-body-requires c κs =
 
 returns : tie.Need-returns
 returns c =
-    let place = c .before .before .before .before .before in
-    let member = place .before .before .before in
+    let place = c .before .before .before .before .before in let member = place .before .before .before in
     part-body (member .before .before .before .args .f) (member .member .given .1) (place .place .given .1) (c .before .before .judge-body .ensures .lines)
 
 returns-2 : tie.Need-returns-2
@@ -21,8 +20,7 @@ returns-2 c =
 
 returns-3 : tie.Need-returns-3
 returns-3 c =
-    let place = c .before .before .before in
-    let member = place .before .before .before in
+    let place = c .before .before .before in let member = place .before .before .before in
     part-init (member .before .before .before .args .f) (member .member2 .given .1) (place .place2 .given .1) (c .judge-init .ensures)
 
 returns-4 : tie.Need-returns-4

@@ -37,9 +37,7 @@ member-requires c κs =
 
 part-requires : tie.Need-part-requires Inv-loop μ-loop
 part-requires c κs =
-    let count = c .before .before .before .before .before in
-    let row = count .before .before in
-    let b = row .before .before .before .before in
+    let count = c .before .before .before .before .before in let row = count .before .before in let b = row .before .before .before .before in
     let j = c .before .before .before .before .loop .j in
     let w = b .args .work .now in
     let whole : Whole w = b .pre .0 in
@@ -67,18 +65,14 @@ same-length c =
 
 returns : tie.Need-returns Inv-loop μ-loop
 returns c =
-    let part = c .before .before .before .before in
-    let test = part .before .before .before .before .before .before in
-    let row = test .before .before .before .before in
-    let b = row .before .before .before .before in
+    let part = c .before .before .before .before in let test = part .before .before .before .before .before .before in
+    let row = test .before .before .before .before in let b = row .before .before .before .before in
     parts-stop (test .before .loop .inv) (b .pre .0) (row .wide .ensures ∙ row .before .form-row .ensures) (test .before .before .members-at .ensures .0) (b .pre .1) (test .loop-test .taken) (part .before .before .before .before .member .ensures) (part .before .before .part .result) (part .before .before .part .ensures) (part .judge-part .ensures) (c .enum-told .given .1)
 
 loop-again : tie.Need-loop-again Inv-loop μ-loop
 loop-again c =
-    let part = c .before .before .before .before .before in
-    let test = part .before .before .before .before .before .before in
-    let row = test .before .before .before .before in
-    let b = row .before .before .before .before in
+    let part = c .before .before .before .before .before in let test = part .before .before .before .before .before .before in
+    let row = test .before .before .before .before in let b = row .before .before .before .before in
     parts-next (test .before .loop .inv) (b .pre .0) (row .wide .ensures ∙ row .before .form-row .ensures) (test .before .before .members-at .ensures .0) (b .pre .1) (test .loop-test .taken) (part .before .before .before .before .member .ensures) (part .before .before .part .result) (part .before .before .part .ensures) (part .judge-part .ensures) (c .before .r .given .1)
 
 same-length-2 : tie.Need-same-length-2 Inv-loop μ-loop
@@ -86,8 +80,7 @@ same-length-2 c = (c .before .loop .inv) .only .size
 
 returns-2 : tie.Need-returns-2 Inv-loop μ-loop
 returns-2 c =
-    let row = c .before .before .before .before in
-    let b = row .before .before .before .before in
+    let row = c .before .before .before .before in let b = row .before .before .before .before in
     parts-end (c .before .loop .inv) (b .pre .0) (row .wide .ensures ∙ row .before .form-row .ensures) (c .before .before .members-at .ensures .0) (c .loop-test .left)
 
 pub judge-parts-spec : {M : Type 1} → statement M

@@ -14,13 +14,19 @@ returns : tie.Need-returns
 returns c = instr-malformed (c .before .args .numbers) (c .before .args .forms) (c .before .args .filled) (c .before .args .place) (c .before .pre) (other-place (c .before .args .place) (Place.Instruction Operation.New) (0 ∷ 1 ∷ 2 ∷ 3 ∷ 4 ∷ 5 ∷ 6 ∷ 7 ∷ 8 ∷ 10 ∷ []) tt (c .match .keys2))
 
 returns-2 : tie.Need-returns-2
-returns-2 c = instr-name (c .before .before .before .before .before .args .numbers) (c .before .before .before .before .before .args .forms) (c .before .before .before .before .before .args .filled) (c .before .before .before .before .before .args .place) (c .before .before .before .before .before .pre) _ (c .before .before .before .place .given .1) (subst (λ (n : ℕ). 63 < n) (c .before .name-in .ensures) (c .if1 .taken))
+returns-2 c =
+    let a = c .before .before .before .before .before in
+    instr-name (a .args .numbers) (a .args .forms) (a .args .filled) (a .args .place) (a .pre) _ (c .before .before .before .place .given .1) (subst (λ (n : ℕ). 63 < n) (c .before .name-in .ensures) (c .if1 .taken))
 
 returns-3 : tie.Need-returns-3
-returns-3 c = instr-not (c .before .before .before .before .before .before .before .args .numbers) (c .before .before .before .before .before .before .before .args .forms) (c .before .before .before .before .before .before .before .args .filled) (c .before .before .before .before .before .before .before .args .place) (c .before .before .before .before .before .before .before .pre) _ (c .before .before .before .before .before .place .given .1) (subst (λ (n : ℕ). n ≤ 63) (c .before .before .before .name-in .ensures) (c .before .before .if1 .left)) (sym (c .before .names-exist .ensures) ∙ not-true (c .before .names-exist .result) (c .if2 .taken))
+returns-3 c =
+    let p = c .before .before .before .before .before in let a = p .before .before in
+    instr-not (a .args .numbers) (a .args .forms) (a .args .filled) (a .args .place) (a .pre) _ (p .place .given .1) (subst (λ (n : ℕ). n ≤ 63) (c .before .before .before .name-in .ensures) (c .before .before .if1 .left)) (sym (c .before .names-exist .ensures) ∙ not-true (c .before .names-exist .result) (c .if2 .taken))
 
 returns-4 : tie.Need-returns-4
-returns-4 c = instr-good (c .before .before .before .before .before .before .before .args .numbers) (c .before .before .before .before .before .before .before .args .forms) (c .before .before .before .before .before .before .before .args .filled) (c .before .before .before .before .before .before .before .args .place) (c .before .before .before .before .before .before .before .pre) _ (c .before .before .before .before .before .place .given .1) (subst (λ (n : ℕ). n ≤ 63) (c .before .before .before .name-in .ensures) (c .before .before .if1 .left)) (sym (c .before .names-exist .ensures) ∙ not-false (c .before .names-exist .result) (c .if2 .left))
+returns-4 c =
+    let p = c .before .before .before .before .before in let a = p .before .before in
+    instr-good (a .args .numbers) (a .args .forms) (a .args .filled) (a .args .place) (a .pre) _ (p .place .given .1) (subst (λ (n : ℕ). n ≤ 63) (c .before .before .before .name-in .ensures) (c .before .before .if1 .left)) (sym (c .before .names-exist .ensures) ∙ not-false (c .before .names-exist .result) (c .if2 .left))
 
 pub instr-line-spec : {M : Type 1} → statement M
 instr-line-spec =

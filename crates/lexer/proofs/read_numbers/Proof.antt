@@ -36,33 +36,40 @@ byte-turn-requires : tie.Need-byte-turn-requires Inv-loop μ-loop
 byte-turn-requires c κs = tt
 
 loop-again : tie.Need-loop-again Inv-loop μ-loop
-loop-again c = (
-  omega arith,
-  part-fits (c .before .before .before .before .before .before .loop .part) (getD (c .before .before .before .before .before .before .before .before .before .args .text .now) (c .before .before .before .before .before .before .loop .at) 0) _ (sym (c .before .before .before .byte-turn .ensures) ∙ c .before .t .given .1),
-  c .before .before .before .before .before .before .loop .inv .2,
-  sym (numbers-more (c .before .before .before .before .before .before .before .before .before .args .text .now) (c .before .before .before .before .before .before .loop .numbers) (c .before .before .before .before .before .before .loop .part) (c .before .before .before .before .before .before .loop .at) (c .before .before .before .before .before .loop-test .taken) _ (sym (c .before .before .before .byte-turn .ensures) ∙ c .before .t .given .1)) ∙ c .before .before .before .before .before .before .loop .inv .3,
-)
+loop-again c =
+    let a = c .before .before .before .before .before in let l = a .before in let b = l .before .before .before in (
+      omega arith,
+      part-fits (l .loop .part) (getD (b .args .text .now) (l .loop .at) 0) _ (sym (c .before .before .before .byte-turn .ensures) ∙ c .before .t .given .1),
+      l .loop .inv .2,
+      sym (numbers-more (b .args .text .now) (l .loop .numbers) (l .loop .part) (l .loop .at) (a .loop-test .taken) _ (sym (c .before .before .before .byte-turn .ensures) ∙ c .before .t .given .1)) ∙ l .loop .inv .3,
+    )
 
 returns : tie.Need-returns Inv-loop μ-loop
-returns c = sym (numbers-full (c .before .before .before .before .before .before .before .before .before .before .args .text .now) (c .before .before .before .before .before .before .before .loop .numbers) (c .before .before .before .before .before .before .before .loop .part) (c .before .before .before .before .before .before .before .loop .at) (c .before .before .before .before .before .before .loop-test .taken) _ (sym (c .before .before .before .before .byte-turn .ensures) ∙ c .before .before .t2 .given .1) (c .if1 .taken)) ∙ c .before .before .before .before .before .before .before .loop .inv .3
+returns c =
+    let t = c .before .before .before .before .before .before in let l = t .before in let a = l .before .before .before in
+    sym (numbers-full (a .args .text .now) (l .loop .numbers) (l .loop .part) (l .loop .at) (t .loop-test .taken) _ (sym (c .before .before .before .before .byte-turn .ensures) ∙ c .before .before .t2 .given .1) (c .if1 .taken)) ∙ l .loop .inv .3
 
 loop-again-2 : tie.Need-loop-again-2 Inv-loop μ-loop
 unfolding withNumber
-loop-again-2 c = (
-  omega arith,
-  tt,
-  (let e : c .with .result .count ≡ c .before .before .before .before .before .before .before .before .loop .numbers .count + 1 = ap (λ (ns : Numbers). ns .count) (c .with .ensures) in omega arith),
-  ap (λ (ns : Numbers). numbersScan ns Part.Empty (c .before .before .before .before .before .before .before .before .loop .at + 1) (drop (c .before .before .before .before .before .before .before .before .loop .at + 1) (c .before .before .before .before .before .before .before .before .before .before .before .args .text .now))) (c .with .ensures)
-      ∙ sym (numbers-comma (c .before .before .before .before .before .before .before .before .before .before .before .args .text .now) (c .before .before .before .before .before .before .before .before .loop .numbers) (c .before .before .before .before .before .before .before .before .loop .part) (c .before .before .before .before .before .before .before .before .loop .at) (c .before .before .before .before .before .before .before .loop-test .taken) _ (sym (c .before .before .before .before .before .byte-turn .ensures) ∙ c .before .before .before .t2 .given .1) (c .before .if1 .left)) ∙ c .before .before .before .before .before .before .before .before .loop .inv .3,
-)
+loop-again-2 c =
+    let b = c .before .before .before .before .before in let t = b .before .before in let l = t .before in let a = l .before .before .before in (
+      omega arith,
+      tt,
+      (let e : c .with .result .count ≡ l .loop .numbers .count + 1 = ap (λ (ns : Numbers). ns .count) (c .with .ensures) in omega arith),
+      ap (λ (ns : Numbers). numbersScan ns Part.Empty (l .loop .at + 1) (drop (l .loop .at + 1) (a .args .text .now))) (c .with .ensures)
+          ∙ sym (numbers-comma (a .args .text .now) (l .loop .numbers) (l .loop .part) (l .loop .at) (t .loop-test .taken) _ (sym (b .byte-turn .ensures) ∙ c .before .before .before .t2 .given .1) (c .before .if1 .left)) ∙ l .loop .inv .3,
+    )
 
 returns-2 : tie.Need-returns-2 Inv-loop μ-loop
 returns-2 c =
-    ap (λ (ns : Numbers). NumbersRead.Numbers ns (c .before .before .before .before .before .before .before .loop .at + 1)) (c .with2 .ensures)
-    ∙ sym (numbers-line (c .before .before .before .before .before .before .before .before .before .before .args .text .now) (c .before .before .before .before .before .before .before .loop .numbers) (c .before .before .before .before .before .before .before .loop .part) (c .before .before .before .before .before .before .before .loop .at) (c .before .before .before .before .before .before .loop-test .taken) _ (sym (c .before .before .before .before .byte-turn .ensures) ∙ c .before .before .t3 .given .1)) ∙ c .before .before .before .before .before .before .before .loop .inv .3
+    let t = c .before .before .before .before .before .before in let l = t .before in let a = l .before .before .before in
+    ap (λ (ns : Numbers). NumbersRead.Numbers ns (l .loop .at + 1)) (c .with2 .ensures)
+    ∙ sym (numbers-line (a .args .text .now) (l .loop .numbers) (l .loop .part) (l .loop .at) (t .loop-test .taken) _ (sym (c .before .before .before .before .byte-turn .ensures) ∙ c .before .before .t3 .given .1)) ∙ l .loop .inv .3
 
 returns-3 : tie.Need-returns-3 Inv-loop μ-loop
-returns-3 c = sym (numbers-torn (c .before .before .before .before .before .before .before .before .args .text .now) (c .before .before .before .before .before .loop .numbers) (c .before .before .before .before .before .loop .part) (c .before .before .before .before .before .loop .at) (c .before .before .before .before .loop-test .taken) (sym (c .before .before .byte-turn .ensures) ∙ c .enum-told .given .1)) ∙ c .before .before .before .before .before .loop .inv .3
+returns-3 c =
+    let l = c .before .before .before .before .before in let a = l .before .before .before in
+    sym (numbers-torn (a .args .text .now) (l .loop .numbers) (l .loop .part) (l .loop .at) (c .before .before .before .before .loop-test .taken) (sym (c .before .before .byte-turn .ensures) ∙ c .enum-told .given .1)) ∙ l .loop .inv .3
 
 returns-4 : tie.Need-returns-4 Inv-loop μ-loop
 returns-4 c = sym (numbers-end (c .before .before .before .before .args .text .now) (c .before .loop .numbers) (c .before .loop .part) (c .before .loop .at) (omega arith)) ∙ c .before .loop .inv .3

@@ -8,7 +8,8 @@ use Rattle.reader.proofs.read_after_rows.Tie as tie
 
 returns : tie.Need-returns
 returns c =
-    forms-line-refused (c .before .before .before .before .before .before .before .pre .2) (c .before .before .before .before .take-line .ensures) (c .before .before .enum-told .given .1) (c .before .stopped .ensures) (c .progress-verdict .ensures)
+    let a = c .before .before .before .before .before .before .before in
+    forms-line-refused (a .pre .2) (c .before .before .before .before .take-line .ensures) (c .before .before .enum-told .given .1) (c .before .stopped .ensures) (c .progress-verdict .ensures)
 
 read-forms-requires : tie.Need-read-forms-requires
 read-forms-requires c κs =
@@ -20,15 +21,13 @@ read-forms-requires c κs =
 
 returns-2 : tie.Need-returns-2
 returns-2 c =
-    let forms = c .before .before .before .before .before in
-    let head = forms .before .before .before in
+    let forms = c .before .before .before .before .before in let head = forms .before .before .before in
     forms-refused (head .before .before .before .before .before .pre .2) (head .before .before .take-line .ensures) (head .head .given .1) (forms .read-forms .ensures) (c .before .enum-told2 .given .1) (c .progress-verdict2 .ensures)
 
 read-main-requires : tie.Need-read-main-requires
 read-main-requires c κs =
     let moved = c .before .before .read .given .1 in
-    let forms = c .before .before .before .before .before .before in
-    let head = forms .before .before .before in
+    let forms = c .before .before .before .before .before .before in let head = forms .before .before .before in
     let ready = head .before .before .before .before .before .pre .2 in
     let told = head .before .before .take-line .ensures in
     let e = head .head .given .1 in
@@ -36,8 +35,7 @@ read-main-requires c κs =
 
 returns-3 : tie.Need-returns-3
 returns-3 c =
-    let forms = c .before .before .before .before .before .before .before .before .before in
-    let head = forms .before .before .before in
+    let forms = c .before .before .before .before .before .before .before .before .before in let head = forms .before .before .before in
     forms-main (head .before .before .before .before .before .pre .2) (head .before .before .take-line .ensures) (head .head .given .1) (forms .read-forms .ensures) (c .before .before .before .before .before .read .given .1) (c .before .before .read-main .ensures)
 
 pub read-after-rows-spec : {M : Type 1} → statement M

@@ -12,23 +12,20 @@ returns c =
 
 read-rows-requires : tie.Need-read-rows-requires
 read-rows-requires c κs =
-    let line = c .before .before .before .before .before in
-    let p = line .before .before .before in
+    let line = c .before .before .before .before .before in let p = line .before .before .before in
     let e = c .before .before .before .head .given .1 in
     ((past e (line .take-line .ensures .onward)) .room, omega (arith, c .wide .ensures, types-few (p .args .work .now) (p .pre .1) (line .take-line .ensures) e), p .pre .1)
 
 returns-2 : tie.Need-returns-2
 returns-2 c =
-    let rows = c .before .before .before .before .before in
-    let head = rows .before .before .before .before in
+    let rows = c .before .before .before .before .before in let head = rows .before .before .before .before in
     let p = head .before .before .before .before .before in
     rows-refused (p .args .work .now) (p .pre .1) (head .before .before .take-line .ensures) (head .head .given .1) (rows .before .wide .ensures) (rows .read-rows .ensures) (c .before .enum-told2 .given .1) (c .progress-verdict2 .ensures)
 
 read-after-rows-requires : tie.Need-read-after-rows-requires
 read-after-rows-requires c κs =
     let moved = c .before .before .read .given .1 in
-    let rows = c .before .before .before .before .before .before in
-    let head = rows .before .before .before .before in
+    let rows = c .before .before .before .before .before .before in let head = rows .before .before .before .before in
     let p = head .before .before .before .before .before in
     let told = head .before .before .take-line .ensures in
     let e = head .head .given .1 in
@@ -37,8 +34,7 @@ read-after-rows-requires c κs =
 
 returns-3 : tie.Need-returns-3
 returns-3 c =
-    let rows = c .before .before .before .before .before .before .before .before .before in
-    let head = rows .before .before .before .before in
+    let rows = c .before .before .before .before .before .before .before .before .before in let head = rows .before .before .before .before in
     let p = head .before .before .before .before .before in
     rows-forms (p .args .work .now) (p .pre .1) (head .before .before .take-line .ensures) (head .head .given .1) (rows .before .wide .ensures) (rows .read-rows .ensures) (c .before .before .before .before .before .read .given .1) (c .before .before .read-after-rows .ensures)
 

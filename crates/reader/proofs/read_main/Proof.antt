@@ -12,8 +12,7 @@ returns c =
 
 read-instrs-requires : tie.Need-read-instrs-requires
 read-instrs-requires c κs =
-    let line = c .before .before .before .before .before .before .before .before .before in
-    let p = line .before .before .before .before in
+    let line = c .before .before .before .before .before .before .before .before .before in let p = line .before .before .before .before in
     let e = c .before .before .before .before .before .before .before .head .given .1 in
     let told = line .take-line .ensures in (
       (past e (told .onward)) .room,
@@ -24,8 +23,7 @@ read-instrs-requires c κs =
 
 returns-2 : tie.Need-returns-2
 returns-2 c =
-    let body = c .before .before .before .before .before in
-    let store = body .before .before .before .before .before in
+    let body = c .before .before .before .before .before in let store = body .before .before .before .before .before in
     let head = store .before .before .before in
     let p = head .before .before .before .before .before .before .pre in
     instrs-refused (p .2) (p .1) (p .3) (head .before .before .take-line .ensures) (head .head .given .1) (store .put-counts .ensures) (body .before .wide .ensures) (body .read-instrs .ensures)
@@ -33,8 +31,7 @@ returns-2 c =
 
 returns-3 : tie.Need-returns-3
 returns-3 c =
-    let body = c .before .before .before .before .before .before .before in
-    let store = body .before .before .before .before .before in
+    let body = c .before .before .before .before .before .before .before in let store = body .before .before .before .before .before in
     let head = store .before .before .before in
     let p = head .before .before .before .before .before .before .pre in
     after-main (p .2) (p .1) (p .3) (head .before .before .take-line .ensures) (head .head .given .1) (store .put-counts .ensures) (body .before .wide .ensures) (body .read-instrs .ensures)
@@ -42,8 +39,7 @@ returns-3 c =
 
 returns-4 : tie.Need-returns-4
 returns-4 c =
-    let body = c .before .before .before .before .before .before .before in
-    let store = body .before .before .before .before .before in
+    let body = c .before .before .before .before .before .before .before in let store = body .before .before .before .before .before in
     let head = store .before .before .before in
     let p = head .before .before .before .before .before .before .pre in
     main-read (p .2) (p .1) (p .3) (head .before .before .take-line .ensures) (head .head .given .1) (store .put-counts .ensures) (body .before .wide .ensures) (body .read-instrs .ensures)

@@ -1,11 +1,10 @@
 use mathlib.Core.Path.{_≡_, sym, ap₂, _∙_, subst}
 use borrow.Author.Tests.{not-true, not-false}
-use Rattle.sheet_rules.specs.RowLines.{sameMember}
+use Rattle.sheet_rules.specs.RowLines.{sameMember, sameMembers}
 use Prim.Native.Nat.{_-_, _≤_}
 use native.Mathlib.Omega.{arith}
 use native.Mathlib.Numerals.{add-one}
 use mathlib.Core.Bool.{true}
-use Rattle.sheet_rules.specs.RowLines.{sameMembers}
 use Rattle.table.specs.View.{memberIn, membersIn}
 use Rattle.row_twins.proofs.TwinLaws.{members-none, members-next, members-differ}
 use Rattle.row_twins.proofs.same_members.Statement.{statement}

@@ -35,14 +35,12 @@ same-length c =
 
 returns : tie.Need-returns Inv-loop μ-loop
 returns c =
-    let form = c .before .before .before .before in
-    let loop = form .before .before .before in
+    let form = c .before .before .before .before in let loop = form .before .before .before in
     forms-stop (loop .loop .inv) (loop .before .before .before .before .pre .0) (loop .before .form-count .ensures .0) (form .before .before .loop-test .taken) (form .judge-form .ensures) (c .enum-told .given .1)
 
 loop-again : tie.Need-loop-again Inv-loop μ-loop
 loop-again c =
-    let form = c .before .before .before .before .before in
-    let loop = form .before .before .before in
+    let form = c .before .before .before .before .before in let loop = form .before .before .before in
     forms-next (loop .loop .inv) (loop .before .before .before .before .pre .0) (loop .before .form-count .ensures .0) (form .before .before .loop-test .taken) (form .judge-form .ensures) (c .before .r .given .1)
 
 same-length-2 : tie.Need-same-length-2 Inv-loop μ-loop

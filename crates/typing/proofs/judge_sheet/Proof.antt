@@ -19,8 +19,7 @@ judge-main-requires c κs =
 
 returns-2 : tie.Need-returns-2
 returns-2 c =
-    let on = c .before .before .before .before .before .before in
-    let b = on .before .before .before .before in
+    let on = c .before .before .before .before .before .before in let b = on .before .before .before .before in
     sheet-judged (b .before .before .first-form-line .ensures .0) (b .judge-forms .ensures) (on .forms .given .1) (c .before .before .before .judge-main .ensures .lines) (c .verdict-of2 .ensures)
 
 pub judge-sheet-spec : {M : Type 1} → statement M

@@ -1,9 +1,8 @@
-use Rattle.machine_steps.proofs.NewLaws.{form-in}
+use Rattle.machine_steps.proofs.NewLaws.{form-in, keeps, starts, fills, new-took}
 use Prim.Native.Nat.{ℕ}
 use mathlib.Core.Path.{refl, ap, _∙_}
 use lib.ListN.{set}
 use Rattle.table.specs.Layout.{slotAddress}
-use Rattle.machine_steps.proofs.NewLaws.{keeps, starts, fills, new-took}
 use borrow.Author.Needs.{needs}
 use Rattle.machine_steps.proofs.creation.new_step.Statement.{statement}
 use Rattle.machine_steps.proofs.creation.new_step.Tie as tie

@@ -1,4 +1,4 @@
-use Rattle.machine_steps.proofs.CallLaws.{form-in}
+use Rattle.machine_steps.proofs.CallLaws.{form-in, object-filled, argument-filled, name-small, save-asks, own-small, enter-asks, callee-small, part-small, body-ends, call-took}
 use native.Mathlib.Omega.{arith}
 use Prim.Native.Nat.{ℕ, _+_}
 use mathlib.Core.Path.{_≡_, sym, ap, _∙_, subst}
@@ -9,7 +9,6 @@ use Rattle.table.specs.Layout.{objectAddress}
 use Rattle.table.specs.View.{cell}
 use Rattle.machine_steps.specs.Running.{Took}
 use Rattle.machine_steps.proofs.FacingLaws.{size, slot-asks}
-use Rattle.machine_steps.proofs.CallLaws.{object-filled, argument-filled, name-small, save-asks, own-small, enter-asks, callee-small, part-small, body-ends, call-took}
 use borrow.Author.Needs.{needs}
 use Rattle.machine_steps.proofs.frames.call_step.Statement.{statement}
 use Rattle.machine_steps.proofs.frames.call_step.Tie as tie

@@ -7,7 +7,9 @@ returns : tie.Need-returns
 returns c = λ p e. instr-new (c .before .before .before .args .work .now) p (c .before .before .before .args .at) e (c .before .match .keys1)
 
 returns-2 : tie.Need-returns-2
-returns-2 c = λ p e. instr-call (c .before .before .before .before .before .args .work .now) p (c .before .before .before .before .before .args .at) e (c .before .before .before .match .keys2)
+returns-2 c =
+    let a = c .before .before .before .before .before in
+    λ p e. instr-call (a .args .work .now) p (a .args .at) e (c .before .before .before .match .keys2)
 
 returns-3 : tie.Need-returns-3
 returns-3 c = λ p e. instr-get (c .before .before .before .args .work .now) p (c .before .before .before .args .at) e (c .before .match .keys3)

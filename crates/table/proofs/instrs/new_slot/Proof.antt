@@ -11,7 +11,9 @@ returns : tie.Need-returns
 returns c = slot-missing (newSlots (c .before .before .before .args .work .now) (c .before .before .before .args .p)) (c .before .before .before .args .k) (omega (arith, c .if1 .taken, c .before .new-slot-count .ensures .0))
 
 returns-2 : tie.Need-returns-2
-returns-2 c = slot-there (c .before .before .before .before .before .args .work .now) (c .before .before .before .before .before .args .p) (4624 + 11 * c .before .within-pool .result) (ap (λ (x : ℕ). 4624 + 11 * x) (c .before .within-pool .ensures)) (c .before .before .before .before .before .args .k) (omega (arith, c .before .before .if1 .left, c .before .before .before .new-slot-count .ensures .0))
+returns-2 c =
+    let a = c .before .before .before .before .before in
+    slot-there (a .args .work .now) (a .args .p) (4624 + 11 * c .before .within-pool .result) (ap (λ (x : ℕ). 4624 + 11 * x) (c .before .within-pool .ensures)) (a .args .k) (omega (arith, c .before .before .if1 .left, c .before .before .before .new-slot-count .ensures .0))
 
 pub new-slot-spec : {M : Type 1} → statement M
 new-slot-spec =

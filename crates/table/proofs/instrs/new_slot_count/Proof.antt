@@ -7,13 +7,19 @@ use Rattle.table.proofs.instrs.new_slot_count.Statement.{statement}
 use Rattle.table.proofs.instrs.new_slot_count.Tie as tie
 
 returns : tie.Need-returns
-returns c = (omega (arith, c .if1 .taken, c .before .wide .ensures, slots-length (c .before .before .before .before .before .args .work .now) (c .before .before .before .before .before .args .p) (4624 + 11 * c .before .before .before .within-pool .result) (ap (λ (x : ℕ). 4624 + 11 * x) (c .before .before .before .within-pool .ensures))), omega arith)
+returns c =
+    let a = c .before .before .before .before .before in
+    (omega (arith, c .if1 .taken, c .before .wide .ensures, slots-length (a .args .work .now) (a .args .p) (4624 + 11 * c .before .before .before .within-pool .result) (ap (λ (x : ℕ). 4624 + 11 * x) (c .before .before .before .within-pool .ensures))), omega arith)
 
 returns-2 : tie.Need-returns-2
-returns-2 c = (omega (arith, c .if2 .taken, c .before .before .wide .ensures, slots-length (c .before .before .before .before .before .before .args .work .now) (c .before .before .before .before .before .before .args .p) (4624 + 11 * c .before .before .before .before .within-pool .result) (ap (λ (x : ℕ). 4624 + 11 * x) (c .before .before .before .before .within-pool .ensures))), omega arith)
+returns-2 c =
+    let a = c .before .before .before .before .before .before in
+    (omega (arith, c .if2 .taken, c .before .before .wide .ensures, slots-length (a .args .work .now) (a .args .p) (4624 + 11 * c .before .before .before .before .within-pool .result) (ap (λ (x : ℕ). 4624 + 11 * x) (c .before .before .before .before .within-pool .ensures))), omega arith)
 
 returns-3 : tie.Need-returns-3
-returns-3 c = (omega (arith, c .if2 .left, c .before .before .wide .ensures, slots-length (c .before .before .before .before .before .before .args .work .now) (c .before .before .before .before .before .before .args .p) (4624 + 11 * c .before .before .before .before .within-pool .result) (ap (λ (x : ℕ). 4624 + 11 * x) (c .before .before .before .before .within-pool .ensures))), omega (arith, c .if2 .left))
+returns-3 c =
+    let a = c .before .before .before .before .before .before in
+    (omega (arith, c .if2 .left, c .before .before .wide .ensures, slots-length (a .args .work .now) (a .args .p) (4624 + 11 * c .before .before .before .before .within-pool .result) (ap (λ (x : ℕ). 4624 + 11 * x) (c .before .before .before .before .within-pool .ensures))), omega (arith, c .if2 .left))
 
 pub new-slot-count-spec : {M : Type 1} → statement M
 new-slot-count-spec =

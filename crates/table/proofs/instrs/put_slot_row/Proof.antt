@@ -7,7 +7,9 @@ use Rattle.table.proofs.instrs.put_slot_row.Statement.{statement}
 use Rattle.table.proofs.instrs.put_slot_row.Tie as tie
 
 returns : tie.Need-returns
-returns c = c .before .before .put .ensures ∙ ap (λ (x : ℕ). set (c .before .before .before .before .before .args .work .now) x (c .before .before .before .before .before .args .row)) (slot-row-address (c .before .before .before .before .before .args .v) (c .before .before .before .before .before .pre .0))
+returns c =
+    let a = c .before .before .before .before .before in
+    c .before .before .put .ensures ∙ ap (λ (x : ℕ). set (a .args .work .now) x (a .args .row)) (slot-row-address (a .args .v) (a .pre .0))
 
 pub put-slot-row-spec : {M : Type 1} → statement M
 put-slot-row-spec = tie.close

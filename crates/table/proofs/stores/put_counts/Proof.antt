@@ -7,7 +7,9 @@ use Rattle.table.proofs.stores.put_counts.Statement.{statement}
 use Rattle.table.proofs.stores.put_counts.Tie as tie
 
 returns : tie.Need-returns
-returns c = c .before .before .put .ensures ∙ ap (λ (x : List ℕ). set x 3 (c .before .before .before .before .before .before .before .before .before .args .count)) (c .before .before .before .before .before .before .put-three .ensures)
+returns c =
+    let p = c .before .before .before .before .before .before in let a = p .before .before .before in
+    c .before .before .put .ensures ∙ ap (λ (x : List ℕ). set x 3 (a .args .count)) (p .put-three .ensures)
 
 pub put-counts-spec : {M : Type 1} → statement M
 put-counts-spec = tie.close

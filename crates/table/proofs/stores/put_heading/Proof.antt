@@ -8,8 +8,9 @@ use Rattle.table.proofs.stores.put_heading.Tie as tie
 
 returns : tie.Need-returns
 returns c =
+    let a = c .before .before .before .before .before in
     c .before .before .put-three .ensures
-    ∙ ap (λ (x : ℕ). threePut (c .before .before .before .before .before .args .work .now) x (c .before .before .before .before .before .args .row) (c .before .before .before .before .before .args .keeps) (c .before .before .before .before .before .args .parts)) (form-address (c .before .before .before .before .before .args .f) (c .before .before .before .before .before .pre .0))
+    ∙ ap (λ (x : ℕ). threePut (a .args .work .now) x (a .args .row) (a .args .keeps) (a .args .parts)) (form-address (a .args .f) (a .pre .0))
 
 pub put-heading-spec : {M : Type 1} → statement M
 put-heading-spec =

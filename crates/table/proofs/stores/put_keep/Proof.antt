@@ -7,7 +7,9 @@ use Rattle.table.proofs.stores.put_keep.Statement.{statement}
 use Rattle.table.proofs.stores.put_keep.Tie as tie
 
 returns : tie.Need-returns
-returns c = c .before .before .put .ensures ∙ ap (λ (x : ℕ). set (c .before .before .before .before .before .args .work .now) x (c .before .before .before .before .before .args .row)) (keep-address (c .before .before .before .before .before .args .f) (c .before .before .before .before .before .args .j) (c .before .before .before .before .before .pre .0) (c .before .before .before .before .before .pre .1))
+returns c =
+    let a = c .before .before .before .before .before in
+    c .before .before .put .ensures ∙ ap (λ (x : ℕ). set (a .args .work .now) x (a .args .row)) (keep-address (a .args .f) (a .args .j) (a .pre .0) (a .pre .1))
 
 pub put-keep-spec : {M : Type 1} → statement M
 put-keep-spec =

@@ -6,7 +6,9 @@ use Rattle.table.proofs.stores.put_number.Statement.{statement}
 use Rattle.table.proofs.stores.put_number.Tie as tie
 
 returns : tie.Need-returns
-returns c = c .before .before .put .ensures ∙ ap (λ (x : ℕ). set (c .before .before .before .before .before .before .args .work .now) (x + (2 + c .before .before .before .before .before .before .args .k)) (c .before .before .before .before .before .before .args .n)) (c .before .before .before .before .instr-address .ensures .0)
+returns c =
+    let a = c .before .before .before .before .before .before in
+    c .before .before .put .ensures ∙ ap (λ (x : ℕ). set (a .args .work .now) (x + (2 + a .args .k)) (a .args .n)) (c .before .before .before .before .instr-address .ensures .0)
 
 pub put-number-spec : {M : Type 1} → statement M
 put-number-spec =

@@ -8,8 +8,9 @@ use Rattle.table.proofs.stores.put_part.Tie as tie
 
 returns : tie.Need-returns
 returns c =
+    let a = c .before .before .before .before .before in
     c .before .before .put-three .ensures
-    ∙ ap (λ (x : ℕ). threePut (c .before .before .before .before .before .args .work .now) x (c .before .before .before .before .before .args .tag) (c .before .before .before .before .before .args .first) (c .before .before .before .before .before .args .second)) (part-address (c .before .before .before .before .before .args .f) (c .before .before .before .before .before .args .j) (c .before .before .before .before .before .pre .0) (c .before .before .before .before .before .pre .1))
+    ∙ ap (λ (x : ℕ). threePut (a .args .work .now) x (a .args .tag) (a .args .first) (a .args .second)) (part-address (a .args .f) (a .args .j) (a .pre .0) (a .pre .1))
 
 pub put-part-spec : {M : Type 1} → statement M
 put-part-spec =

@@ -9,8 +9,9 @@ use Rattle.table.proofs.stores.put_row_head.Tie as tie
 
 returns : tie.Need-returns
 returns c =
-    c .before .before .put2 .ensures ∙ ap (λ (x : List ℕ). set x (16 + 36 * (c .before .before .before .before .before .before .before .before .before .args .i) + 1) (c .before .before .before .before .before .before .before .before .before .args .members)) (c .before .before .before .before .before .before .put .ensures)
-    ∙ ap (λ (a : ℕ). set (set (c .before .before .before .before .before .before .before .before .before .args .work .now) a (c .before .before .before .before .before .before .before .before .before .args .kind)) (a + 1) (c .before .before .before .before .before .before .before .before .before .args .members)) (row-address (c .before .before .before .before .before .before .before .before .before .args .i) (c .before .before .before .before .before .before .before .before .before .pre .0))
+    let p = c .before .before .before .before .before .before in let b = p .before .before .before in
+    c .before .before .put2 .ensures ∙ ap (λ (x : List ℕ). set x (16 + 36 * (b .args .i) + 1) (b .args .members)) (p .put .ensures)
+    ∙ ap (λ (a : ℕ). set (set (b .args .work .now) a (b .args .kind)) (a + 1) (b .args .members)) (row-address (b .args .i) (b .pre .0))
 
 pub put-row-head-spec : {M : Type 1} → statement M
 put-row-head-spec =
