@@ -1,10 +1,10 @@
 -- A law for each exit of the judges of lines. Assumes nothing.
 use Prim.Native.Nat.{ℕ, _+_, _≤_, _<_}
 use mathlib.Core.Path.{_≡_, sym, ap, _∙_, subst}
-use mathlib.Core.Bool.{Bool, true, false, not, _&&_}
+use mathlib.Core.Bool.{true, false, _&&_}
 use mathlib.Core.List.{List}
 use lib.Dec.{T, leb, ltb}
-use borrow.Author.Tests.{not-true, not-false, lt-ltb, le-ltb, le-leb, lt-leb}
+use borrow.Author.Tests.{lt-ltb, le-ltb, le-leb, lt-leb}
 use Rattle.sheet_rules.specs.declared.Place.{Place}
 use Rattle.sheet_rules.specs.declared.Reason.the-variants.{Malformed, OutOfLimit, NotDefined}
 use Rattle.sheet_rules.specs.Keys.{samePlace}
@@ -16,14 +16,6 @@ use Rattle.lexer.specs.declared.Numbers.{Numbers}
 use Rattle.lexer.specs.Scan.{listOf, Fitting}
 use Rattle.line_judges.specs.Told.{rowTold, formTold}
 use Rattle.line_judges.proofs.JudgeLaws.{stands-place, number-first, number-second, two-of-row, two-of-form, demand-no, demand-yes}
-
--- by the code's test of a line's place
-
-pub elsewhere : {here test : Bool} → test ≡ here → not test ≡ true → here ≡ false
-elsewhere {test = b} e t = sym e ∙ not-true b t
-
-pub at-place : {here test : Bool} → test ≡ here → not test ≡ false → here ≡ true
-at-place {test = b} e t = sym e ∙ not-false b t
 
 module _ (w : Place) {k : Place} {ns : Numbers} (h : Fitting k ns) where
   -- the limits of a count

@@ -1,10 +1,11 @@
 -- Tests joined by `and` and `or`, as facts; and what never holds. Assumes nothing.
 use Prim.Native.Nat.{ℕ}
 use native.Mathlib.Omega.{arith}
-use mathlib.Core.Path.{_≡_, refl, sym, subst}
-use mathlib.Core.Bool.{Bool, true, false, _&&_, _||_}
+use mathlib.Core.Path.{_≡_, refl, sym, _∙_, subst}
+use mathlib.Core.Bool.{Bool, true, false, not, _&&_, _||_}
 use mathlib.Core.Logic.{_⊎_, inl, inr}
 use lib.Dec.{T}
+use borrow.Author.Tests.{not-true, not-false}
 
 pub and-left : (a b : Bool) → T (a && b) → T a
 and-left true b t = tt
@@ -37,6 +38,13 @@ T→true false t = absurd t
 
 pub true→T : (b : Bool) → b ≡ true → T b
 true→T b e = subst T (sym e) tt
+
+-- a test's answer b, by what it tests: `if !b` was taken, or left
+pub test-fails : {b x : Bool} → b ≡ x → not b ≡ true → x ≡ false
+test-fails {b} e t = sym e ∙ not-true b t
+
+pub test-holds : {b x : Bool} → b ≡ x → not b ≡ false → x ≡ true
+test-holds {b} e t = sym e ∙ not-false b t
 
 -- two tests that follow from each other are equal
 pub T-ext : (a b : Bool) → (T a → T b) → (T b → T a) → a ≡ b

@@ -1,7 +1,7 @@
+use Rattle.lists.proofs.Tests.{test-fails, test-holds}
 use Prim.Native.Nat.{_-_}
 use native.Mathlib.Omega.{arith}
 use mathlib.Core.Path.{sym, ap₂, _∙_}
-use borrow.Author.Tests.{not-true, not-false}
 use Rattle.sheet_rules.specs.RowLines.{sameMember}
 use Rattle.row_twins.proofs.TwinLaws.{member-equal}
 use Rattle.fit.specs.Told.{Alike}
@@ -56,7 +56,7 @@ returns-2 c =
       alike = l .loop .inv;
       differ =
           λ p q. sym (ap₂ sameMember (c .before .before .before .member .ensures) (c .before .before .member2 .ensures))
-          ∙ sym (c .before .same-member .ensures) ∙ not-true (c .before .same-member .result) (c .if2 .taken);
+          ∙ test-fails (c .before .same-member .ensures) (c .if2 .taken);
     }
 
 add-n : tie.Need-add-n Inv-loop μ-loop
@@ -81,7 +81,7 @@ loop-again c =
     let l = c .before .before .before .before .if1 .left in
     alike-next (g .args .work .now) (g .args .m) (g .args .k) (d .loop .n) (d .loop .inv) (omega arith) (omega arith)
     (sym (c .before .before .before .member .ensures)
-    ∙ member-equal (c .before .before .before .member .result) (c .before .before .member2 .result) (sym (c .before .same-member .ensures) ∙ not-false (c .before .same-member .result) (c .if2 .left))
+    ∙ member-equal (c .before .before .before .member .result) (c .before .before .member2 .result) (test-holds (c .before .same-member .ensures) (c .if2 .left))
     ∙ c .before .before .member2 .ensures)
 
 returns-3 : tie.Need-returns-3 Inv-loop μ-loop

@@ -1,4 +1,4 @@
-use borrow.Author.Tests.{not-true, not-false}
+use Rattle.lists.proofs.Tests.{test-fails, test-holds}
 use mathlib.Core.Path.{sym, _∙_}
 use mathlib.Core.Bool.{not, _&&_}
 use Rattle.sheet_rules.specs.declared.Reason.the-variants.{ImpureForm}
@@ -16,21 +16,21 @@ returns c =
     let b = c .before .before .before in
     let a = b .args .a in
     line-good (b .args .line) ImpureForm (not (isPure ((rowAt ((sheetIn (b .args .work .now)) .rows) a) .kind) && hasField (membersAt (sheetIn (b .args .work .now)) a)))
-    (neither (hasField (membersAt (sheetIn (b .args .work .now)) a)) (sym (c .before .is-pure .ensures) ∙ not-true (c .before .is-pure .result) (c .if1 .taken)))
+    (neither (hasField (membersAt (sheetIn (b .args .work .now)) a)) (test-fails (c .before .is-pure .ensures) (c .if1 .taken)))
 
 returns-2 : tie.Need-returns-2
 returns-2 c =
     let b = c .before .before .before .before .before in
     let a = b .args .a in
     line-bad (b .args .line) ImpureForm (not (isPure ((rowAt ((sheetIn (b .args .work .now)) .rows) a) .kind) && hasField (membersAt (sheetIn (b .args .work .now)) a)))
-    (both (sym (c .before .before .before .is-pure .ensures) ∙ not-false (c .before .before .before .is-pure .result) (c .before .before .if1 .left)) (sym (c .before .has-field .ensures) ∙ c .if2 .taken))
+    (both (test-holds (c .before .before .before .is-pure .ensures) (c .before .before .if1 .left)) (sym (c .before .has-field .ensures) ∙ c .if2 .taken))
 
 returns-3 : tie.Need-returns-3
 returns-3 c =
     let b = c .before .before .before .before .before in
     let a = b .args .a in
     line-good (b .args .line) ImpureForm (not (isPure ((rowAt ((sheetIn (b .args .work .now)) .rows) a) .kind) && hasField (membersAt (sheetIn (b .args .work .now)) a)))
-    (not-both (sym (c .before .before .before .is-pure .ensures) ∙ not-false (c .before .before .before .is-pure .result) (c .before .before .if1 .left)) (sym (c .before .has-field .ensures) ∙ c .if2 .left))
+    (not-both (test-holds (c .before .before .before .is-pure .ensures) (c .before .before .if1 .left)) (sym (c .before .has-field .ensures) ∙ c .if2 .left))
 
 pub judge-head-spec : {M : Type 1} → statement M
 judge-head-spec =

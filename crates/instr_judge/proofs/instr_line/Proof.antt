@@ -1,7 +1,7 @@
+use Rattle.lists.proofs.Tests.{test-fails, test-holds}
 use Prim.Native.Nat.{ℕ, _≤_, _<_}
-use mathlib.Core.Path.{sym, _∙_, subst}
+use mathlib.Core.Path.{subst}
 use mathlib.Core.List.{[], _∷_}
-use borrow.Author.Tests.{not-true, not-false}
 use Rattle.sheet_rules.specs.declared.Operation.{Operation}
 use Rattle.sheet_rules.specs.declared.Place.{Place}
 use Rattle.line_judges.proofs.PlaceLaws.{other-place}
@@ -21,12 +21,12 @@ returns-2 c =
 returns-3 : tie.Need-returns-3
 returns-3 c =
     let p = c .before .before .before .before .before in let a = p .before .before in
-    instr-not (a .args .numbers) (a .args .forms) (a .args .filled) (a .args .place) (a .pre) _ (p .place .given .1) (subst (λ (n : ℕ). n ≤ 63) (c .before .before .before .name-in .ensures) (c .before .before .if1 .left)) (sym (c .before .names-exist .ensures) ∙ not-true (c .before .names-exist .result) (c .if2 .taken))
+    instr-not (a .args .numbers) (a .args .forms) (a .args .filled) (a .args .place) (a .pre) _ (p .place .given .1) (subst (λ (n : ℕ). n ≤ 63) (c .before .before .before .name-in .ensures) (c .before .before .if1 .left)) (test-fails (c .before .names-exist .ensures) (c .if2 .taken))
 
 returns-4 : tie.Need-returns-4
 returns-4 c =
     let p = c .before .before .before .before .before in let a = p .before .before in
-    instr-good (a .args .numbers) (a .args .forms) (a .args .filled) (a .args .place) (a .pre) _ (p .place .given .1) (subst (λ (n : ℕ). n ≤ 63) (c .before .before .before .name-in .ensures) (c .before .before .if1 .left)) (sym (c .before .names-exist .ensures) ∙ not-false (c .before .names-exist .result) (c .if2 .left))
+    instr-good (a .args .numbers) (a .args .forms) (a .args .filled) (a .args .place) (a .pre) _ (p .place .given .1) (subst (λ (n : ℕ). n ≤ 63) (c .before .before .before .name-in .ensures) (c .before .before .if1 .left)) (test-holds (c .before .names-exist .ensures) (c .if2 .left))
 
 pub instr-line-spec : {M : Type 1} → statement M
 instr-line-spec =

@@ -1,5 +1,5 @@
+use Rattle.lists.proofs.Tests.{test-fails, test-holds}
 use mathlib.Core.Path.{_≡_, sym, ap₂, _∙_, subst}
-use borrow.Author.Tests.{not-true, not-false}
 use Rattle.sheet_rules.specs.RowLines.{sameMember, sameMembers}
 use Prim.Native.Nat.{_-_, _≤_}
 use native.Mathlib.Omega.{arith}
@@ -32,14 +32,14 @@ returns : tie.Need-returns Inv-loop μ-loop
 returns c =
     let l = c .before .before .before .before .before in let d = l .before .before in
     sym (members-differ (memberIn (d .args .work .now) (d .args .a)) (memberIn (d .args .work .now) (d .args .b)) (l .loop .j) (d .args .count) (c .before .before .before .before .loop-test .taken) (l .loop .inv .1)
-    (sym (ap₂ sameMember (c .before .before .before .member .ensures) (c .before .before .member2 .ensures)) ∙ sym (c .before .same-member .ensures) ∙ not-true (c .before .same-member .result) (c .if1 .taken)))
+    (sym (ap₂ sameMember (c .before .before .before .member .ensures) (c .before .before .member2 .ensures)) ∙ test-fails (c .before .same-member .ensures) (c .if1 .taken)))
 
 loop-again : tie.Need-loop-again Inv-loop μ-loop
 loop-again c =
     let l = c .before .before .before .before .before in
     let d = l .before .before in (
       omega arith,
-      rw add-one (members-next (memberIn (d .args .work .now) (d .args .a)) (memberIn (d .args .work .now) (d .args .b)) (l .loop .j) (l .loop .inv .1) (sym (ap₂ sameMember (c .before .before .before .member .ensures) (c .before .before .member2 .ensures)) ∙ sym (c .before .same-member .ensures) ∙ not-false (c .before .same-member .result) (c .if1 .left))),
+      rw add-one (members-next (memberIn (d .args .work .now) (d .args .a)) (memberIn (d .args .work .now) (d .args .b)) (l .loop .j) (l .loop .inv .1) (sym (ap₂ sameMember (c .before .before .before .member .ensures) (c .before .before .member2 .ensures)) ∙ test-holds (c .before .same-member .ensures) (c .if1 .left))),
     )
 
 returns-2 : tie.Need-returns-2 Inv-loop μ-loop

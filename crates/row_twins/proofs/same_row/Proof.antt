@@ -1,6 +1,6 @@
+use Rattle.lists.proofs.Tests.{test-fails, test-holds}
 use Prim.Native.Nat.{ℕ}
 use mathlib.Core.Path.{sym, ap, ap₂, _∙_}
-use borrow.Author.Tests.{not-true, not-false}
 use Rattle.sheet_rules.specs.RowLines.{sameKind, sameMembers}
 use Rattle.table.specs.View.{membersIn}
 use Rattle.row_twins.proofs.TwinLaws.{rows-kind, rows-count, rows-members}
@@ -18,7 +18,7 @@ returns-2 c =
     let kinds = c .before .before .before in
     let a = kinds .before .before .before .before .before .args in
     sym (rows-kind (a .work .now) (a .a) (a .b)
-    (sym (ap₂ sameKind (kinds .row-kind .ensures) (c .before .before .row-kind2 .ensures)) ∙ sym (c .before .same-kind .ensures) ∙ not-true (c .before .same-kind .result) (c .if2 .taken)))
+    (sym (ap₂ sameKind (kinds .row-kind .ensures) (c .before .before .row-kind2 .ensures)) ∙ test-fails (c .before .same-kind .ensures) (c .if2 .taken)))
 
 returns-3 : tie.Need-returns-3
 returns-3 c =
@@ -28,7 +28,7 @@ returns-3 c =
     c .same-members .ensures
     ∙ ap (λ (n : ℕ). sameMembers (membersIn (a .work .now) (a .a) n) (membersIn (a .work .now) (a .b) n)) (kinds .before .before .member-count2 .ensures)
     ∙ sym (rows-members (a .work .now) (a .a) (a .b)
-    (sym (ap₂ sameKind (kinds .row-kind .ensures) (c .before .before .before .row-kind2 .ensures)) ∙ sym (c .before .before .same-kind .ensures) ∙ not-false (c .before .before .same-kind .result) (c .before .if2 .left))
+    (sym (ap₂ sameKind (kinds .row-kind .ensures) (c .before .before .before .row-kind2 .ensures)) ∙ test-holds (c .before .before .same-kind .ensures) (c .before .if2 .left))
     (sym (counts .member-count .ensures) ∙ kinds .before .if1 .left ∙ kinds .before .before .member-count2 .ensures))
 
 pub same-row-spec : {M : Type 1} → statement M
