@@ -1,5 +1,5 @@
 -- Entries written one holder after another. Assumes nothing.
-use Prim.Native.Nat.{ℕ, suc, pred, _+_, _-_, _*_, _≤_, _<_}
+use Prim.Native.Nat.{ℕ, suc, _+_, _-_, _*_, _≤_, _<_}
 use native.Mathlib.Omega.{arith}
 use native.Mathlib.Numerals.{add-one}
 use mathlib.Core.Path.{_≡_, refl, sym, ap, _∙_, subst}
@@ -11,28 +11,22 @@ use lib.ListN.{length, set, take, drop, length-append, length-drop, take-append-
 use lib.Seq.{length-take-le}
 use borrow.Rule.Slice.PartMut.{putMid}
 use Rattle.lists.proofs.Tests.{or-cases, or-right, true→T}
-use Rattle.sheet_rules.specs.Sheet.{Sheet}
 use Rattle.machine_rules.specs.declared.Tally.{Tally}
-use Rattle.machine_rules.specs.Sound.{Sound}
 use Rattle.lists.specs.Passing.{addIf, passing}
 use Rattle.authority_rules.specs.Authority.{mainHolder, isResource, isHolder, holds, authority}
 use Rattle.authority_rules.specs.Report.{Holding, holdingOf, holders}
 use Rattle.authority_rules.proofs.AuthorityLaws.{resource-below}
-use Rattle.table.specs.Layout.{frameAddress}
 use Rattle.table.specs.View.{sheetIn}
 use Rattle.table.proofs.ViewLaws.{only-refl, only-trans}
-use Rattle.accepted.proofs.AcceptedLaws.{accepted-same}
-use Rattle.machine_places.proofs.LocatedLaws.{located-same}
 use Rattle.machine_state.specs.declared.Top.{Top}
-use Rattle.machine_state.proofs.HeldLaws.{frame-same, below-same, objects-count}
+use Rattle.machine_state.proofs.HeldLaws.{objects-count}
 use Rattle.machine_steps.specs.Running.{Running}
-use Rattle.machine_steps.proofs.FacingLaws.{frames-few, objects-few}
-use Rattle.authority_marks.specs.Marked.{MarksOnly}
+use Rattle.machine_steps.proofs.FacingLaws.{objects-few}
 use Rattle.lists.specs.PutAt.{begun, putAt}
 use Rattle.lists.proofs.PutAtLaws.{put-put}
 use Rattle.authority.specs.Reach.{AuthorityWritten}
 use Rattle.authority.specs.Every.{entryOf, entries, everySize, heldState, EntriesWritten, ifResource, EveryWritten}
-use Rattle.authority.proofs.BelowLaws.{marks-sheet, marks-objects}
+use Rattle.authority.proofs.BelowLaws.{marks-sheet}
 use Rattle.authority.proofs.MarkedRunLaws.{marks-state, marks-running}
 use Rattle.lists.proofs.PassingLaws.{passing-few, passing-snoc}
 use Rattle.authority.proofs.PutLaws.{entry-put, entries-append, entries-one, entries-few}

@@ -1,6 +1,6 @@
 -- Marks on numbers below 256, in the work buffer's spare room, and what they tell. Stands on the table's layout and on the rules'
 -- `contains`.
-use Prim.Native.Nat.{ℕ, _+_, _<_, min}
+use Prim.Native.Nat.{ℕ, _+_, _<_}
 use mathlib.Core.Path.{_≡_}
 use mathlib.Core.Bool.{Bool, false, _||_}
 use mathlib.Core.List.{List}

@@ -6,14 +6,14 @@ use mathlib.Core.Bool.{Bool, true, false, cond}
 use mathlib.Core.List.{List, [], _∷_, _++_}
 use mathlib.Core.Option.{Option, none, some}
 use mathlib.Core.Logic.{_⊎_, inl, inr}
-use lib.Dec.{T, eqb, eqb→eq, ltb, ltb→lt}
+use lib.Dec.{T, eqb, ltb, ltb→lt}
 use lib.ListN.{length}
 use borrow.Author.Tests.{eqb-true, eq-eqb, ne-eqb}
-use Rattle.lists.specs.In.{In, here, there}
+use Rattle.lists.specs.In.{In}
 use Rattle.lists.specs.Contains.{contains}
 use Rattle.lists.proofs.ContainsLaws.{contains-in, in-contains}
 use Rattle.lists.proofs.InLaws.{in-nil, in-left, in-right, in-cases}
-use Rattle.lists.proofs.Tests.{and-left, and-right, and-intro, or-left, or-right, or-cases, T→true, true→T}
+use Rattle.lists.proofs.Tests.{and-left, and-right, and-intro, or-left, or-right, T→true, true→T}
 use Rattle.sheet_rules.specs.Limits.{storeLimit}
 use Rattle.sheet_rules.specs.Sheet.{Sheet, rowOfForm}
 use Rattle.machine_rules.specs.State.{Object, Frame, State, objectAt}

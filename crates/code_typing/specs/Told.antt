@@ -1,5 +1,5 @@
 -- What judging a body's lines ensures. Stands on the typing rules, the table's view and the judgement of one instruction.
-use Prim.Native.Nat.{ℕ, _+_}
+use Prim.Native.Nat.{ℕ}
 use mathlib.Core.Path.{_≡_}
 use mathlib.Core.Bool.{Bool, true, false}
 use mathlib.Core.List.{List, []}

@@ -1,7 +1,6 @@
 // The lines of a body, judged over the table one after another.
 ghost use mathlib.Core.Path.{_≡_};
 ghost use Prim.Native.Nat.{_≤_, _+_};
-ghost use lib.Dec.{eqb};
 ghost use Rattle.table.specs.View.{instrIn};
 ghost use Rattle.table.specs.Whole.{Whole};
 ghost use Rattle.instr_typing.specs.Told.{rowFound};

@@ -4,22 +4,19 @@ use native.Mathlib.Omega.{arith}
 use mathlib.Core.Path.{_≡_, refl, sym, ap, _∙_, subst}
 use mathlib.Core.Bool.{Bool, true, false, cond, _&&_}
 use mathlib.Core.List.{List}
-use lib.Dec.{leb, ltb}
+use lib.Dec.{ltb}
 use lib.ListN.{length}
 use borrow.Author.Tests.{lt-ltb, le-ltb, le-leb}
-use Rattle.lists.proofs.TabLaws.{length-tab}
 use Rattle.sheet_rules.specs.declared.Reason.{Reason}
 use Rattle.sheet_rules.specs.declared.Reason.the-variants.{BufferTooShort, NotDefined}
 use Rattle.sheet_rules.specs.declared.Verdict.{Verdict}
-use Rattle.sheet_rules.specs.Sheet.{Sheet}
-use Rattle.sheet_rules.specs.Reading.{Meaning, readable, unreadable, meaning}
+use Rattle.sheet_rules.specs.Reading.{Meaning, unreadable, meaning}
 use Rattle.sheet_rules.specs.WellFormed.{WellFormed}
 use Rattle.type_rules.specs.declared.FitReply.{FitReply}
 use Rattle.type_rules.specs.Fit.{fits}
 use Rattle.type_rules.specs.FitQuestion.{fitIn, fitOn, fitReply}
-use Rattle.table.specs.Layout.{rowCountAt, tableEnd, slotRowAddress, workSize}
-use Rattle.table.specs.View.{cell, rowIn, sheetIn}
-use Rattle.table.specs.Only.{Only}
+use Rattle.table.specs.Layout.{rowCountAt, workSize}
+use Rattle.table.specs.View.{cell, sheetIn}
 use Rattle.table.proofs.ViewLaws.{only-refl, only-trans, only-widen}
 use Rattle.question.specs.Asked.{ToldAlone}
 use Rattle.reader.specs.Reads.{verdictMeans, SheetRead}

@@ -1,7 +1,6 @@
 // The forms of a sheet, read into the table.
 ghost use mathlib.Core.Path.{_≡_};
 ghost use Prim.Native.Nat.{_≤_, _<_, _+_};
-ghost use lib.ListN.{length};
 ghost use Rattle.line_reader.specs.Told.{Room};
 ghost use Rattle.table.specs.Ready.{Ready};
 ghost use Rattle.table.specs.View.{rowIn, rowsIn};

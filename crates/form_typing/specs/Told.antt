@@ -1,7 +1,7 @@
 -- What judging the lines of a form ensures. Stands on the typing rules, the table's view and the judgement of a body's lines.
 use Prim.Native.Nat.{ℕ, _+_, _≤_, _<_}
 use mathlib.Core.Path.{_≡_}
-use mathlib.Core.List.{List, [], _∷_}
+use mathlib.Core.List.{List, _∷_}
 use mathlib.Core.Option.{none, some}
 use lib.ListN.{getD}
 use Rattle.sheet_rules.specs.declared.Member.{Member}

@@ -1,12 +1,12 @@
 -- One instruction, judged: a law for each kind. Assumes nothing.
 use Prim.Native.Nat.{ℕ}
-use mathlib.Core.Path.{_≡_, refl, sym, ap, ap₂, _∙_}
-use mathlib.Core.Bool.{Bool, true, false}
+use mathlib.Core.Path.{_≡_, sym, ap, ap₂, _∙_}
+use mathlib.Core.Bool.{Bool}
 use mathlib.Core.List.{List}
-use mathlib.Core.Option.{Option, none, some}
+use mathlib.Core.Option.{Option}
 use lib.ListN.{getD}
 use Rattle.sheet_rules.specs.declared.Reason.the-variants.{NoSuchMember, Misfit}
-use Rattle.sheet_rules.specs.Sheet.{Instr, new, call, get, put, copy, formAt}
+use Rattle.sheet_rules.specs.Sheet.{new, formAt}
 use Rattle.type_rules.specs.Typing.{Signature, Own, methodIn, membersAt, ownField, allFit, unless}
 use Rattle.table.specs.View.{instrIn, sheetIn}
 use Rattle.table.specs.Told.{newSlots, instrTold, slotRowsIn}

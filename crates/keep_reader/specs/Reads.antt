@@ -1,5 +1,5 @@
 -- What reading a form's kept rows into the table ensures. Stands on reading, the table's view, and the readers of items.
-use Prim.Native.Nat.{ℕ, _+_}
+use Prim.Native.Nat.{ℕ}
 use mathlib.Core.List.{List}
 use Rattle.sheet_rules.specs.declared.Place.{Place}
 use Rattle.sheet_rules.specs.Reader.{one, existingLine}

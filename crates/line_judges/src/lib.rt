@@ -1,6 +1,6 @@
 // The judgement of one line by its place and numbers, in the order of the refusals' numbers.
 ghost use mathlib.Core.Path.{_≡_};
-ghost use Prim.Native.Nat.{ℕ, _≤_, _<_, _+_};
+ghost use Prim.Native.Nat.{ℕ, _≤_, _<_};
 ghost use Rattle.sheet_rules.specs.Keys.{placeNumber, samePlace, memberKind};
 ghost use Rattle.sheet_rules.specs.Reader.{good, countLine, existingLine};
 ghost use mathlib.Core.List.{List};

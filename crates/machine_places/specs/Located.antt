@@ -1,6 +1,6 @@
 -- What the table by form and name tells a run: where the body of each method stands, and the place of each field. It stands
 -- where the answers of fit stood. Stands on the table's view and on the machine's look-ups.
-use Prim.Native.Nat.{ℕ, _+_, _<_}
+use Prim.Native.Nat.{ℕ, _<_}
 use mathlib.Core.Path.{_≡_}
 use mathlib.Core.List.{List}
 use mathlib.Core.Option.{some}

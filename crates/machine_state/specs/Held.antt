@@ -1,6 +1,6 @@
 -- The machine's state that the work buffer holds: a function of its numbers, of where the top frame stands, and of the tally.
 -- Stands on the table's layout and view, and on the machine's states.
-use Prim.Native.Nat.{ℕ, zero, suc, pred, _+_, _-_, min}
+use Prim.Native.Nat.{ℕ, zero, suc, pred, _+_, _-_}
 use mathlib.Core.List.{List, [], _∷_}
 use mathlib.Core.Option.{Option, none, some}
 use lib.ListN.{length, set}

@@ -1,5 +1,5 @@
 -- A run in a work buffer that holds an accepted sheet, and what a step makes of it. Stands on the state that the buffer holds.
-use Prim.Native.Nat.{ℕ, suc, _+_, _≤_, _<_}
+use Prim.Native.Nat.{ℕ, suc, _≤_, _<_}
 use mathlib.Core.Path.{_≡_}
 use mathlib.Core.List.{List}
 use Rattle.sheet_rules.specs.Sheet.{Instr}

@@ -1,5 +1,4 @@
 // The steps that change the stack: a call, which puts a frame on it, and the return, which takes one away.
-ghost use mathlib.Core.Path.{_≡_};
 ghost use Prim.Native.Nat.{_≤_, _<_};
 ghost use lib.ListN.{length};
 ghost use Rattle.sheet_rules.specs.Sheet.{call};

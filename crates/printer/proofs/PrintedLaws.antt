@@ -8,7 +8,7 @@ use Rattle.sheet_rules.specs.declared.Reason.{Reason}
 use Rattle.sheet_rules.specs.Answers.{numberOf}
 use Rattle.machine_rules.specs.declared.RunAnswer.{RunAnswer}
 use Rattle.authority_rules.specs.declared.ReportReply.{ReportReply}
-use Rattle.authority_rules.specs.Report.{Holding, Report, reported, notReported, report}
+use Rattle.authority_rules.specs.Report.{Holding, Report, reported, report}
 use Rattle.table.specs.Layout.{workSize}
 use Rattle.lists.specs.PutAt.{begun}
 use Rattle.authority.specs.Every.{entries, everySize}

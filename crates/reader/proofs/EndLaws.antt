@@ -1,15 +1,15 @@
 -- Where the text ends there is no line, and elsewhere there is one. Assumes nothing.
 use Prim.Native.Nat.{ℕ, zero, suc, _≤_, _<_}
 use native.Mathlib.Omega.{arith}
-use mathlib.Core.Path.{_≡_, refl, sym, ap, _∙_}
+use mathlib.Core.Path.{_≡_, refl}
 use mathlib.Core.Bool.{Bool, true, false, cond}
 use mathlib.Core.List.{List, [], _∷_}
 use lib.Dec.{eqb}
 use lib.ListN.{length, drop}
 use Rattle.lists.proofs.Tests.{clash}
 use Rattle.sheet_rules.specs.declared.Reason.the-variants.{Malformed}
-use Rattle.sheet_rules.specs.Lines.{Line, newline, splitOn, inFront, finished, linesOf}
-use Rattle.sheet_rules.specs.Reader.{Read, got, refused}
+use Rattle.sheet_rules.specs.Lines.{newline, splitOn, inFront, finished, linesOf}
+use Rattle.sheet_rules.specs.Reader.{got, refused}
 use Rattle.sheet_rules.specs.Reading.{readEnd}
 
 -- there is always a piece

@@ -1,5 +1,5 @@
 -- What reading rows into the table ensures. Stands on reading, the table's view, and the readers of lines.
-use Prim.Native.Nat.{ℕ, _+_, _≤_, _<_}
+use Prim.Native.Nat.{ℕ, _≤_, _<_}
 use mathlib.Core.Path.{_≡_}
 use mathlib.Core.List.{List, []}
 use lib.ListN.{length, drop}

@@ -1,5 +1,5 @@
 -- A member of a row, stored. Stands on the table's view.
-use Prim.Native.Nat.{ℕ, _+_}
+use Prim.Native.Nat.{ℕ}
 use mathlib.Core.Path.{_≡_}
 use mathlib.Core.List.{List}
 use Rattle.sheet_rules.specs.declared.Member.{Member}

@@ -1,21 +1,20 @@
 -- Lines back to bytes: what a text is split into joins to it again, a word that spells a key is the key's, and a number has one
 -- decimal. Assumes nothing.
-use Prim.Native.Nat.{ℕ, zero, suc, _+_, _-_, _*_, _/_, _%_, _≤_, _<_}
+use Prim.Native.Nat.{ℕ, zero, suc, _+_, _-_, _*_, _/_, _%_, _≤_}
 use native.Mathlib.Omega.{arith}
 use native.Mathlib.Nat.{div-add-mod'}
 use mathlib.Core.Path.{_≡_, refl, sym, ap, _∙_, subst}
 use mathlib.Core.Bool.{Bool, true, false, cond, not, _&&_}
-use mathlib.Core.List.{List, [], _∷_, _++_, append-assoc, append-nil}
+use mathlib.Core.List.{List, [], _∷_, _++_}
 use lib.Dec.{T, eqb, eqb→eq, leb, leb→le}
 use lib.ListN.{length, length-append}
 use borrow.Author.Tests.{eqb-false, not-true}
-use Rattle.lists.proofs.Tests.{and-left, and-right, T→true, clash}
+use Rattle.lists.proofs.Tests.{and-left, and-right, T→true}
 use Rattle.sheet_rules.specs.declared.Place.{Place}
 use Rattle.sheet_rules.specs.declared.Place.the-variants.{Nowhere}
-use Rattle.sheet_rules.specs.Keys.{spelling, sameBytes, placeAmong, placeOf, placeNumber}
-use Rattle.sheet_rules.specs.Lines.{newline, comma, equals, digit0, digit9, inFront, splitStep, splitOn, allDigits, noLeadingZero, valueFrom, valueOf, isDecimal, allDecimals, values, Line, line, torn, numbered, keyed, lineOf, unfinished, finished, linesOf}
-use Rattle.sheet_rules.specs.Decimals.{decimal, further, lineText}
-use Rattle.sheet_rules.specs.Print.{lineBytes, linesBytes}
+use Rattle.sheet_rules.specs.Keys.{spelling, sameBytes, placeAmong}
+use Rattle.sheet_rules.specs.Lines.{digit0, digit9, inFront, splitStep, splitOn, allDigits, noLeadingZero, valueFrom, valueOf, isDecimal}
+use Rattle.sheet_rules.specs.Decimals.{decimal}
 use Rattle.sheet_rules.proofs.DecimalLaws.{decimal-one, decimal-more, value-snoc, digit-small}
 
 -- SPLITTING AND JOINING

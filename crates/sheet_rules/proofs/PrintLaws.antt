@@ -16,7 +16,7 @@ use Rattle.sheet_rules.specs.Reader.{Read, got, refused, Reader, give, a
 use Rattle.sheet_rules.specs.RowLines.{Heading, rowLine, memberLine, readRow}
 use Rattle.sheet_rules.specs.FormLines.{FormHeading, formLine, bodyLine, instrLine, readInstrs, readPart, readForm}
 use Rattle.sheet_rules.specs.Reading.{readEnd, readSheet, readable, conclude}
-use Rattle.sheet_rules.specs.Print.{kindNumber, memberWritten, rowWritten, rowsWritten, instrWritten, partWritten, partsWritten, keepWritten, formWritten, formsWritten, sheetWritten, print}
+use Rattle.sheet_rules.specs.Print.{kindNumber, memberWritten, rowWritten, rowsWritten, instrWritten, partWritten, partsWritten, keepWritten, formWritten, formsWritten, sheetWritten}
 use Rattle.sheet_rules.proofs.TakenLaws.{Takes, takes, takes-none, takes-give, takes-map, takes-one, takes-then, takes-many}
 use Rattle.sheet_rules.proofs.LineWritten.{NumberWritten, types-written, forms-written, keep-written, init-written, body-written, main-written, row-written, form-written, member-written, instr-written}
 

@@ -8,8 +8,8 @@ use Rattle.lists.proofs.Tests.{and-left, and-right}
 use Rattle.sheet_rules.specs.declared.Place.{Place}
 use Rattle.sheet_rules.specs.declared.Place.the-variants.{Nowhere}
 use Rattle.sheet_rules.specs.Keys.{spelling, placeOf, allPlaces, samePlace}
-use Rattle.sheet_rules.specs.Lines.{newline, comma, equals, splitOn, valueOf, isDecimal, allDecimals, values, Line, line, torn, numbered, keyed, lineOf, unfinished, finished, linesOf}
-use Rattle.sheet_rules.specs.Decimals.{decimal, further, lineText}
+use Rattle.sheet_rules.specs.Lines.{newline, comma, equals, splitOn, valueOf, isDecimal, allDecimals, values, Line, line, torn, numbered, keyed, lineOf, finished, linesOf}
+use Rattle.sheet_rules.specs.Decimals.{decimal, further}
 use Rattle.sheet_rules.specs.Print.{lineBytes, linesBytes}
 use Rattle.sheet_rules.proofs.PrintBytes.{joinOn, join-split, spelled-among, decimal-only}
 

@@ -1,6 +1,6 @@
 -- A text that reads as a sheet is that sheet's print: reading loses nothing. Assumes nothing.
 use Prim.Native.Nat.{ℕ}
-use mathlib.Core.Path.{_≡_, refl, sym, ap, _∙_, subst}
+use mathlib.Core.Path.{_≡_, sym, ap, _∙_, subst}
 use mathlib.Core.Bool.{Bool, true, false, cond}
 use mathlib.Core.List.{List, [], _∷_, _++_, map}
 use lib.Dec.{leb}
@@ -12,8 +12,8 @@ use Rattle.sheet_rules.specs.declared.Reason.the-variants.{TextTooLong}
 use Rattle.sheet_rules.specs.Limits.{textLimit}
 use Rattle.sheet_rules.specs.Lines.{Line, linesOf}
 use Rattle.sheet_rules.specs.Sheet.{Row, Instr, new, call, get, put, copy, Part, init, body, Form, Sheet}
-use Rattle.sheet_rules.specs.Reading.{readSheet, Meaning, readable, unreadable, conclude, meaning}
-use Rattle.sheet_rules.specs.Print.{memberWritten, rowWritten, rowsWritten, instrWritten, partWritten, partsWritten, keepWritten, formWritten, formsWritten, sheetWritten, linesBytes, print}
+use Rattle.sheet_rules.specs.Reading.{readSheet, readable, unreadable, conclude, meaning}
+use Rattle.sheet_rules.specs.Print.{memberWritten, rowsWritten, instrWritten, partWritten, partsWritten, keepWritten, formsWritten, sheetWritten, linesBytes, print}
 use Rattle.sheet_rules.proofs.PrintLines.{Proper, proper, AllProper, no-line, a-line, lines-back}
 use Rattle.sheet_rules.proofs.PrintLaws.{lines-written}
 

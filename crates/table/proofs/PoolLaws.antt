@@ -1,14 +1,14 @@
 -- Laws of a buffer that grows by parts and forms: what came before is as it was. Assumes nothing.
 use Prim.Native.Nat.{ℕ, _+_, _*_, _≤_, _<_}
 use native.Mathlib.Omega.{arith}
-use mathlib.Core.Path.{_≡_, refl, sym, ap, _∙_, subst}
+use mathlib.Core.Path.{_≡_, refl, ap, _∙_}
 use mathlib.Core.Bool.{Bool, false, cond}
 use mathlib.Core.List.{List}
 use lib.Dec.{eqb}
 use Rattle.table.specs.Layout.{formCountAt, mainStartAt, mainCountAt, rowAddress, formAddress, partAddress, instrAddress, tableEnd}
 use Rattle.table.specs.View.{cell, instrIn, partIn, formIn, rowIn}
 use Rattle.table.specs.Only.{Only}
-use Rattle.table.specs.Pool.{OnlyFrom, partEnd, PartsEnd, FormEnds, Placed}
+use Rattle.table.specs.Pool.{OnlyFrom, partEnd, FormEnds, Placed}
 use Rattle.table.proofs.ViewLaws.{SameFrom, SameTable, instr-same, part-same, form-same, row-same}
 
 -- OnlyFrom: reflexive, composes while the pool grows, and follows from Only

@@ -1,5 +1,5 @@
 -- A whole buffer that holds rows. Stands on View.
-use Prim.Native.Nat.{ℕ, _+_, _≤_, _<_}
+use Prim.Native.Nat.{ℕ, _≤_, _<_}
 use mathlib.Core.List.{List}
 use lib.ListN.{length}
 use Rattle.table.specs.Layout.{memberCountAddress, workSize}

@@ -1,5 +1,5 @@
 -- What the accessors of parts and instructions tell, in the rules' words. Stands on View.
-use Prim.Native.Nat.{ℕ, _+_}
+use Prim.Native.Nat.{ℕ}
 use mathlib.Core.Path.{_≡_}
 use mathlib.Core.List.{List}
 use lib.ListN.{take, drop}

@@ -1,4 +1,4 @@
-use Rattle.authority.proofs.HolderLaws.{main-holds, resource-holds, beneath-holds}
+use Rattle.authority.proofs.HolderLaws.{resource-holds, beneath-holds}
 use borrow.Author.Needs.{needs}
 use Rattle.authority.proofs.frame_holder.Statement.{statement}
 use Rattle.authority.proofs.frame_holder.Tie as tie

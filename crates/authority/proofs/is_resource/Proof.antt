@@ -1,6 +1,6 @@
 use mathlib.Core.Path.{sym, ap, _∙_}
 use Rattle.authority_rules.specs.Authority.{isResourceKind}
-use Rattle.authority.proofs.HolderLaws.{resource-missing, object-small, resource-there}
+use Rattle.authority.proofs.HolderLaws.{resource-missing, resource-there}
 use borrow.Author.Needs.{needs}
 use Rattle.authority.proofs.is_resource.Statement.{statement}
 use Rattle.authority.proofs.is_resource.Tie as tie

@@ -1,4 +1,4 @@
-use Prim.Native.Nat.{_-_, _≤_}
+use Prim.Native.Nat.{_-_}
 use native.Mathlib.Omega.{arith}
 use Rattle.authority_marks.proofs.MarkLaws.{Clearing, clearing-start, clearing-size, clearing-next, clearing-end}
 use Rattle.authority_marks.proofs.clear_marks.Statement.{statement}

@@ -1,8 +1,7 @@
 use Rattle.authority_marks.proofs.MarkLaws.{marking-small, marking-start, marking-size, marking-next}
-use Prim.Native.Nat.{ℕ, _+_, _-_, _≤_, _<_}
+use Prim.Native.Nat.{ℕ, _-_, _≤_}
 use native.Mathlib.Omega.{arith}
-use mathlib.Core.Path.{_≡_, refl, _∙_, subst}
-use Rattle.table.specs.View.{cell}
+use mathlib.Core.Path.{_≡_, refl, subst}
 use Rattle.authority_marks.specs.Marked.{Added, numbersFrom}
 use Rattle.authority_marks.proofs.mark_all.Statement.{statement}
 use Rattle.authority_marks.proofs.mark_all.Tie as tie

@@ -1,4 +1,3 @@
-use Prim.Native.Nat.{ℕ}
 use mathlib.Core.Path.{sym, ap}
 use Rattle.instr_typing.specs.declared.InstrJudged.{InstrJudged}
 use Rattle.code_typing.specs.Told.{stoppedAt}

@@ -1,6 +1,6 @@
 use Prim.Native.Nat.{ℕ}
 use lib.ListN.{getD}
-use mathlib.Core.Path.{sym, ap, _∙_}
+use mathlib.Core.Path.{ap, _∙_}
 use Rattle.type_rules.specs.Typing.{methodIn, membersAt}
 use Rattle.table.specs.View.{sheetIn}
 use Rattle.table.specs.Told.{slotRowsIn}

@@ -1,6 +1,6 @@
 use Prim.Native.Nat.{ℕ}
 use lib.ListN.{getD}
-use mathlib.Core.Path.{sym, ap, _∙_}
+use mathlib.Core.Path.{ap, _∙_}
 use Rattle.table.specs.Told.{slotRowsIn}
 use Rattle.instr_typing.specs.Told.{rowFound}
 use Rattle.instr_typing.proofs.InstrLaws.{judged-new, judged-call, judged-get, judged-put, judged-copy}

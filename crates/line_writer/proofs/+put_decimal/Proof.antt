@@ -1,9 +1,8 @@
-use Prim.Native.Nat.{ℕ, _/_, _<_}
+use Prim.Native.Nat.{ℕ, _<_}
 use native.Mathlib.Omega.{arith}
 use mathlib.Core.Path.{_∙_}
 use borrow.Fn.Kinds.{In}
 use borrow.Fn.PlainCycle.{Measures, is, falls, and}
-use Rattle.sheet_rules.specs.Decimals.{decimal}
 use Rattle.sheet_rules.proofs.DecimalLaws.{tenth, digit-small}
 use Rattle.line_writer.proofs.PutLaws.{put-size, digit-put, last-inside, digits-put}
 use Rattle.line_writer.proofs.put_decimal.Reads as put-decimal

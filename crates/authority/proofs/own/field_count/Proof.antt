@@ -1,6 +1,6 @@
 use Prim.Native.Nat.{_-_, _≤_}
 use native.Mathlib.Omega.{arith}
-use mathlib.Core.Path.{_≡_, _∙_}
+use mathlib.Core.Path.{_∙_}
 use Rattle.authority.proofs.OwnLaws.{Counting, counting-start, counting-next, counting-asks, counting-end}
 use Rattle.authority.proofs.own.field_count.Statement.{statement}
 use Rattle.authority.proofs.own.field_count.Tie as tie

@@ -1,8 +1,7 @@
 use Rattle.machine_steps.proofs.CallLaws.{form-in, object-filled, argument-filled, name-small, save-asks, own-small, enter-asks, callee-small, part-small, body-ends, call-took}
 use native.Mathlib.Omega.{arith}
 use Prim.Native.Nat.{ℕ, _+_}
-use mathlib.Core.Path.{_≡_, sym, ap, _∙_, subst}
-use lib.ListN.{length}
+use mathlib.Core.Path.{sym, ap, _∙_, subst}
 use Rattle.sheet_rules.specs.Sheet.{call}
 use Rattle.machine_rules.specs.Steps.{called}
 use Rattle.table.specs.Layout.{objectAddress}

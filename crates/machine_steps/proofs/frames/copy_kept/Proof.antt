@@ -1,5 +1,5 @@
 use native.Mathlib.Omega.{arith}
-use Prim.Native.Nat.{ℕ, _+_, _-_, _≤_}
+use Prim.Native.Nat.{_-_, _≤_}
 use mathlib.Core.Path.{_≡_, subst}
 use Rattle.machine_steps.specs.Entered.{KeptCopied}
 use Rattle.machine_steps.proofs.EnterLaws.{kept-start, kept-size, kept-next}

@@ -1,5 +1,4 @@
 use native.Mathlib.Omega.{arith}
-use Prim.Native.Nat.{_-_}
 use Rattle.machine_steps.proofs.FacingLaws.{size}
 use Rattle.machine_steps.proofs.ReturnLaws.{last-filled, last-small, f-some, f-small, b-small, returned-took}
 use borrow.Author.Needs.{needs}

@@ -1,5 +1,4 @@
 use native.Mathlib.Omega.{arith}
-use Prim.Native.Nat.{ℕ}
 use mathlib.Core.Path.{sym, ap, _∙_}
 use Rattle.sheet_rules.specs.Sheet.{Form}
 use Rattle.table.specs.View.{cell}

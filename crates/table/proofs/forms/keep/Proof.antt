@@ -1,10 +1,8 @@
 use Rattle.sheet_rules.specs.Sheet.{formAt, Form}
 use Rattle.table.specs.View.{sheetIn, cell}
 use native.Mathlib.Omega.{arith}
-use Prim.Native.Nat.{ℕ}
 use lib.ListN.{getD}
-use mathlib.Core.Path.{sym, ap, _∙_, subst}
-use mathlib.Core.List.{List}
+use mathlib.Core.Path.{sym, ap, _∙_}
 use Rattle.table.proofs.FormLaws.{keep-address}
 use Rattle.table.proofs.InstrLaws.{slot-missing}
 use Rattle.table.proofs.SheetLaws.{form-missing, keep-at}

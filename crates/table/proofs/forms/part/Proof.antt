@@ -1,4 +1,3 @@
-use mathlib.Core.Path.{refl}
 use Rattle.table.proofs.FormLaws.{part-address}
 use Rattle.table.proofs.InstrLaws.{part-init, part-body}
 use borrow.Author.Needs.{needs}

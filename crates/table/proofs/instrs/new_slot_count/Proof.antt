@@ -1,6 +1,6 @@
 use native.Mathlib.Omega.{arith}
 use Prim.Native.Nat.{ℕ, _+_, _*_}
-use mathlib.Core.Path.{ap, _∙_}
+use mathlib.Core.Path.{ap}
 use Rattle.table.proofs.InstrLaws.{slots-length}
 use borrow.Author.Needs.{needs}
 use Rattle.table.proofs.instrs.new_slot_count.Statement.{statement}
