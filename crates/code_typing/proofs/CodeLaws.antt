@@ -29,6 +29,7 @@ use Rattle.code_typing.specs.declared.Walked.{Walked}
 use Rattle.code_typing.specs.Walk.{walk}
 use Rattle.code_typing.specs.Told.{lastFault, lineJudged, stoppedAt, OnlySlots, CodeJudged, instrJudgeIn, codeFaultsIn, codeSlotRows}
 use Rattle.code_typing.proofs.WalkLaws.{walk-none, walk-good, walk-bad}
+use Rattle.code_typing.proofs.LineLaws.{good-none, good-row}
 
 -- what a change of slots' rows leaves as it was
 
@@ -226,20 +227,12 @@ module _ {own : Own} {wanted : Option ℕ} {filled start count first : ℕ} {w�
           same =
               ap₂ (λ (xs : List ℕ) (k : ℕ). walk (line + 1) (faults xs (drop k code))) rows-then (add-one j)
               ∙ walk-good line (faults (rows ++ (row ∷ [])) rest)
-              ∙ ap (λ (f : Fault). walk line (f ∷ faults (rows ++ (row ∷ [])) rest)) (no-fault fault (sym judged-rule ∙ e)) ∙ walk-here;
+              ∙ ap (λ (f : Fault). walk line (f ∷ faults (rows ++ (row ∷ [])) rest)) (sym (good-none fault row r (sym judged-rule ∙ e))) ∙ walk-here;
           slots = ap₂ (λ (xs : List ℕ) (k : ℕ). slotsFrom xs (drop k code)) rows-then (add-one j) ∙ slots-here;
         }
       where
-        no-fault : (f : Fault) → judgedOf f row ≡ InstrJudged.Good r → none ≡ f
-        no-fault none e = refl
-        no-fault (some q) e = clash (cc)
-
-        row-is : (f : Fault) → judgedOf f row ≡ InstrJudged.Good r → r ≡ row
-        row-is none e = cc
-        row-is (some q) e = clash (cc)
-
         rows-then : slotRowsIn w′ (filled + (j + 1)) ≡ rows ++ (row ∷ [])
         rows-then =
             (let m : filled + (j + 1) ≡ filled + j + 1 = omega arith in ap (slotRowsIn w′) m)
             ∙ slots-more w w′ (filled + j) r (omega arith) (omega (arith, g .only .size)) s
-            ∙ ap (λ (x : ℕ). slotRowsIn w (filled + j) ++ (x ∷ [])) (row-is fault (sym judged-rule ∙ e))
+            ∙ ap (λ (x : ℕ). slotRowsIn w (filled + j) ++ (x ∷ [])) (good-row fault row r (sym judged-rule ∙ e))

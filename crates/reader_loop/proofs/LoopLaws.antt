@@ -11,7 +11,7 @@ use Rattle.sheet_rules.specs.declared.Reason.{Reason}
 use Rattle.sheet_rules.specs.Lines.{Line, linesOf}
 use Rattle.sheet_rules.specs.Reader.{got, refused, Reader, andThen, many}
 use Rattle.table.specs.Only.{Only}
-use Rattle.table.proofs.ViewLaws.{only-refl, only-trans}
+use Rattle.table.proofs.ViewLaws.{only-refl, only-trans, only-widen}
 use Rattle.line_reader.specs.declared.Cursor.{Cursor}
 use Rattle.line_reader.specs.declared.Progress.{Progress}
 use Rattle.line_reader.specs.Told.{Room, readFrom, gotAt, readTold, Advanced}
@@ -65,6 +65,12 @@ going-start {text = text} {x = x} {from = from} {w = w} r u =
 pub record Turn {A : Type 0} (text : List ℕ) (x : Items A) (w : List ℕ) (j : ℕ) (here : Cursor) (w′ : List ℕ) (r : Progress) : Type 0 where
   pub read : ItemRead text ((x .item) (tab ((x .value) w) j)) (λ v. (x .value) v j) (λ v. (x .used) v (j + 1)) (x .lo) (x .hi) here w w′ r
   pub kept : tab ((x .value) w′) j ≡ tab ((x .value) w) j
+
+-- an item that has no instructions, read within a wider part of the buffer
+pub read-within : {A : Type 0} {text : List ℕ} {item : Reader A} {value : List ℕ → A} {lo lo′ hi hi′ used : ℕ} {here : Cursor} {w w′ : List ℕ} {r : Progress} → lo′ ≤ lo → hi ≤ hi′
+    → here .used ≡ used → ItemRead text item value (λ v. here .used) lo hi here w w′ r → ItemRead text item value (λ v. used) lo′ hi′ here w w′ r
+read-within {text = text} {here = here} {r = r} l h u m =
+    record { told = m .told; only = only-widen l h (m .only); advanced = subst (λ (n : ℕ). Advanced text here n r) u (m .advanced) }
 
 module _ {A : Type 0} {text : List ℕ} {x : Items A} {count : ℕ} {from : Cursor} {w₀ w : List ℕ} {j : ℕ} {here : Cursor} (g : Going text x count from w₀ w j here) where
   one-more : j < count → count - j ≡ suc (count - (j + 1))
