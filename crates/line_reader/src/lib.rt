@@ -35,9 +35,9 @@ pub enum Progress {
     Refused { reason: Reason, line: u32 },
 }
 
-// Judges a line by the place that is wanted and by a bound: the lowest name of a member, how many rows a kept row or a form may have,
-// how many values an `init` may name, how many instructions a body comes after. The other lines have none, and no instruction is judged
-// here.
+// Judges a line by the place that is wanted and by a bound: the lowest name that a member may have; how many rows there are, for a form's
+// row and for a kept one; how many values the form keeps, for an `init`; how many instructions stand before a body or main. The other
+// lines have no bound, and no instruction is judged here.
 fn judge(wanted: Place, bound: u32, place: Place, numbers: Numbers) -> LineJudged
     requires { ⌜ Fitting place numbers ⌝ }
     ensures { λ r. ⌜ Judges wanted bound place numbers r ⌝ }
