@@ -10,12 +10,15 @@ use lib.Dec.{T, eqb, eqb→eq}
 use lib.ListN.{length, set, take, drop, length-append, length-drop, take-append-drop}
 use lib.Seq.{length-take-le}
 use borrow.Rule.Slice.PartMut.{putMid}
-use Rattle.lists.proofs.Tests.{or-cases, or-right, true→T}
+use Rattle.lists.specs.AnyAll.{all}
+use Rattle.lists.proofs.Tests.{and-intro, or-cases, or-right, true→T}
 use Rattle.machine_rules.specs.declared.Tally.{Tally}
 use Rattle.lists.specs.Passing.{addIf, passing}
-use Rattle.authority_rules.specs.Authority.{mainHolder, isResource, isHolder, holds, authority}
+use Rattle.authority_rules.specs.Authority.{mainHolder, isResource, isHolder, authority}
 use Rattle.authority_rules.specs.Report.{Holding, holdingOf, holders}
+use Rattle.authority_rules.specs.Group.{groupAuthority}
 use Rattle.authority_rules.proofs.AuthorityLaws.{resource-below}
+use Rattle.authority_rules.proofs.GroupLaws.{authority-one}
 use Rattle.table.specs.View.{sheetIn}
 use Rattle.table.proofs.ViewLaws.{only-refl, only-trans}
 use Rattle.machine_state.specs.declared.Top.{Top}
@@ -24,11 +27,12 @@ use Rattle.machine_steps.specs.Running.{Running}
 use Rattle.machine_steps.proofs.FacingLaws.{objects-few}
 use Rattle.lists.specs.PutAt.{begun, putAt}
 use Rattle.lists.proofs.PutAtLaws.{put-put}
-use Rattle.authority.specs.Reach.{AuthorityWritten}
-use Rattle.authority.specs.Every.{entryOf, entries, everySize, heldState, EntriesWritten, ifResource, EveryWritten}
+use Rattle.authority.specs.Group.{heldState, GroupWritten}
+use Rattle.authority.specs.Every.{entryOf, entries, everySize, EntriesWritten, ifResource, EveryWritten}
 use Rattle.authority.proofs.BelowLaws.{marks-sheet}
 use Rattle.authority.proofs.MarkedRunLaws.{marks-state, marks-running}
 use Rattle.lists.proofs.PassingLaws.{passing-few, passing-snoc}
+use Rattle.authority.proofs.MemberLaws.{group-few}
 use Rattle.authority.proofs.PutLaws.{entry-put, entries-append, entries-one, entries-few}
 
 -- WHAT A HOLDER'S ENTRY TAKES
@@ -37,16 +41,25 @@ module _ (w : List ℕ) (t : Top) (k : Tally) (r : Running w t k) where
   resource-small : (b : ℕ) → T (isResource (sheetIn w) ((heldState w t k) .objects) b) → b < 256
   resource-small b u = omega (arith, resource-below (sheetIn w) ((heldState w t k) .objects) b u, objects-count (sheetIn w) w (k .objects), objects-few w t k r)
 
-  pub holder-small : (h : ℕ) → T (isHolder (sheetIn w) (heldState w t k) h) → h < 65536
+  pub holder-small : (h : ℕ) → T (isHolder (sheetIn w) ((heldState w t k) .objects) h) → h < 65536
   holder-small h u = go (or-cases (eqb h mainHolder) (isResource (sheetIn w) ((heldState w t k) .objects) h) u)
     where
       go : T (eqb h mainHolder) ⊎ T (isResource (sheetIn w) ((heldState w t k) .objects) h) → h < 65536
       go (inl e) = omega (arith, eqb→eq h mainHolder e)
       go (inr v) = omega (arith, resource-small h v)
 
-  pub authority-few : (h : ℕ) → length (authority (sheetIn w) (heldState w t k) h) ≤ 256
-  unfolding authority
-  authority-few h = omega (arith, passing-few (holds (sheetIn w) (heldState w t k) h) 0 (length ((heldState w t k) .objects)), objects-count (sheetIn w) w (k .objects), objects-few w t k r)
+  authority-few : (h : ℕ) → length (authority (sheetIn w) (heldState w t k) h) ≤ 256
+  authority-few h = omega (arith, ap length (authority-one (sheetIn w) (heldState w t k) h), group-few w t k r (h ∷ []))
+
+  -- what writing one holder's authority asks for, by a list of that holder
+  pub entry-asks : {h h′ : ℕ} → h′ ≡ h → T (isHolder (sheetIn w) ((heldState w t k) .objects) h) → (at : ℕ) (result : List ℕ) → at + 258 ≤ length result
+      → Running w t k × T (all (isHolder (sheetIn w) ((heldState w t k) .objects)) (h′ ∷ [])) × (256 ≤ length (take (length result - (at + 2)) (drop (at + 2) result)))
+  unfolding all
+  entry-asks {h} {h′} e u at result l = (
+    r,
+    and-intro (isHolder (sheetIn w) ((heldState w t k) .objects) h′) true (subst (λ (x : ℕ). T (isHolder (sheetIn w) ((heldState w t k) .objects) x)) (sym e) u) tt,
+    (let d = length-drop (at + 2) result in let p = length-take-le (length result - (at + 2)) (drop (at + 2) result) (omega arith) in omega arith),
+  )
 
 -- ENTRIES WRITTEN
 
@@ -56,21 +69,27 @@ module _ (w : List ℕ) (t : Top) (k : Tally) where
   none-written at result = record { only = only-refl _ _ w; counted = omega arith; left = sym (take-append-drop at result) }
 
   -- one holder's entry, its numbers written through the part after its head
-  pub entry-written : (r : Running w t k) (h : ℕ) (w′ : List ℕ) (at : ℕ) (result : List ℕ) → at + 2 ≤ length result → (c : ℕ) (ys : List ℕ)
-      → AuthorityWritten w t k h w′ (take (length result - (at + 2)) (drop (at + 2) result)) ys c → (h′ c′ : ℕ) → h′ ≡ h → c′ ≡ c
+  pub entry-written : (r : Running w t k) (h : ℕ) (w′ : List ℕ) (at : ℕ) (result : List ℕ) → at + 2 ≤ length result → (c : ℕ) (ys : List ℕ) (h′ : ℕ)
+      → GroupWritten w t k (h′ ∷ []) w′ (take (length result - (at + 2)) (drop (at + 2) result)) ys c → (c′ : ℕ) → h′ ≡ h → c′ ≡ c
       → EntriesWritten w t k (h ∷ []) w′ at result (set (set (putMid (at + 2) (length result - (at + 2)) result ys) at h′) (at + 1) c′) (at + 2 + c)
-  entry-written r h w′ at result l c ys a h′ c′ eh ec =
+  entry-written r h w′ at result l c ys h′ a c′ eh ec =
       record {
         only = a .only;
-        counted = (let n : length (entryOf one) ≡ suc (suc (length (one .held))) = refl in let m = a .counted in omega arith) ∙ ap (λ (xs : List ℕ). at + length xs) (sym (entries-one one));
+        counted = (let n : length (entryOf one) ≡ suc (suc (length (one .held))) = refl in omega (arith, counted)) ∙ ap (λ (xs : List ℕ). at + length xs) (sym (entries-one one));
         left =
-            (λ i. set (set (putMid (at + 2) (length result - (at + 2)) result (a .left i)) at (eh i)) (at + 1) ((ec ∙ a .counted) i))
+            (λ i. set (set (putMid (at + 2) (length result - (at + 2)) result ((a .left ∙ ap (λ (xs : List ℕ). begun xs (take (length result - (at + 2)) (drop (at + 2) result))) held) i)) at (eh i)) (at + 1) ((ec ∙ counted) i))
             ∙ entry-put result (one .held) at h (length (one .held)) l
             ∙ ap (λ (xs : List ℕ). putAt at xs result) (sym (entries-one one));
       }
     where
       one : Holding
       one = holdingOf (sheetIn w) (heldState w t k) h
+
+      held : groupAuthority (sheetIn w) (heldState w t k) (h′ ∷ []) ≡ one .held
+      held = ap (λ (x : ℕ). groupAuthority (sheetIn w) (heldState w t k) (x ∷ [])) eh ∙ authority-one (sheetIn w) (heldState w t k) h
+
+      counted : c ≡ length (one .held)
+      counted = a .counted ∙ ap length held
 
   -- entries, and then others from where they end
   module _ (r : Running w t k) (hs : List ℕ) (w₁ : List ℕ) (at : ℕ) (result result₁ : List ℕ) (at₁ : ℕ) (a : EntriesWritten w t k hs w₁ at result result₁ at₁) where
@@ -122,7 +141,7 @@ module _ (w : List ℕ) (t : Top) (k : Tally) (b : ℕ) (q : Bool) (e : q ≡ is
   pub object-passed : q ≡ false → (at : ℕ) (result : List ℕ) → EntriesWritten w t k (ifResource w t k b) w at result result at
   object-passed p at result = subst (λ (x : Bool). EntriesWritten w t k (addIf x b []) w at result result at) (sym p ∙ e) (none-written w t k at result)
 
-  pub object-holder : q ≡ true → T (isHolder (sheetIn w) (heldState w t k) b)
+  pub object-holder : q ≡ true → T (isHolder (sheetIn w) ((heldState w t k) .objects) b)
   object-holder p = or-right (eqb b mainHolder) (isResource (sheetIn w) ((heldState w t k) .objects) b) (true→T _ (sym e ∙ p))
 
   pub object-written : q ≡ true → (w′ : List ℕ) (at : ℕ) (result result′ : List ℕ) (at′ : ℕ) → EntriesWritten w t k (b ∷ []) w′ at result result′ at′ → EntriesWritten w t k (ifResource w t k b) w′ at result result′ at′

@@ -4,5 +4,6 @@ pub mod OwnLaws
 pub mod WrittenLaws
 pub mod MarkedRunLaws
 pub mod ReachLaws
+pub mod MemberLaws
 pub mod PutLaws
 pub mod EveryLaws

@@ -3,11 +3,9 @@ use Prim.Native.Nat.{ℕ, pred, _+_, _≤_, _<_}
 use native.Mathlib.Omega.{arith}
 use mathlib.Core.Path.{_≡_, sym, subst}
 use mathlib.Core.List.{List}
-use lib.Dec.{T}
 use Rattle.sheet_rules.specs.Sheet.{Sheet}
 use Rattle.machine_rules.specs.declared.Tally.{Tally}
 use Rattle.machine_rules.specs.Sound.{Sound}
-use Rattle.authority_rules.specs.Authority.{isHolder}
 use Rattle.table.specs.Layout.{frameAddress}
 use Rattle.table.specs.View.{sheetIn}
 use Rattle.accepted.proofs.AcceptedLaws.{accepted-same}
@@ -17,7 +15,7 @@ use Rattle.machine_state.proofs.HeldLaws.{frame-same, below-same}
 use Rattle.machine_steps.specs.Running.{Running}
 use Rattle.machine_steps.proofs.FacingLaws.{frames-few}
 use Rattle.authority_marks.specs.Marked.{MarksOnly}
-use Rattle.authority.specs.Every.{heldState}
+use Rattle.authority.specs.Group.{heldState}
 use Rattle.authority.proofs.BelowLaws.{marks-sheet, marks-objects}
 
 module _ (w w′ : List ℕ) (o : MarksOnly w w′) (t : Top) (k : Tally) (r : Running w t k) where
@@ -43,6 +41,3 @@ module _ (w w′ : List ℕ) (o : MarksOnly w w′) (t : Top) (k : Tally) (r : R
               below = λ f h. (let few = frames-few w t k r in subst (λ (x : ℕ). x ≤ 1024) (sym (o .below (frameAddress f + 3) (omega arith))) (r .ending .below f h));
             };
       }
-
-  pub marks-holder : (h : ℕ) → T (isHolder (sheetIn w) (heldState w t k) h) → T (isHolder (sheetIn w′) (heldState w′ t k) h)
-  marks-holder h x = subst T (λ i. isHolder (sym (marks-sheet w w′ o) i) (sym marks-state i) h) x

@@ -1,9 +1,9 @@
--- All that a holder can reach, marked; and its authority, written. Assumes nothing.
+-- All that a holder can reach, marked. Assumes nothing.
 use Prim.Native.Nat.{ℕ, zero, suc, pred, _<_}
 use native.Mathlib.Omega.{arith}
 use native.Mathlib.Decide.{ℕ-discrete}
 use mathlib.Core.Path.{_≡_, refl, sym, ap, _∙_, subst}
-use mathlib.Core.Bool.{Bool, true, cond, _&&_, _||_, and-comm}
+use mathlib.Core.Bool.{Bool, true, cond, _||_}
 use mathlib.Core.List.{List, [], _∷_, _++_}
 use lib.Dec.{T, eqb}
 use lib.ListN.{length, getD}
@@ -17,9 +17,7 @@ use Rattle.sheet_rules.specs.Sheet.{Sheet}
 use Rattle.machine_rules.specs.declared.Tally.{Tally}
 use Rattle.machine_rules.specs.State.{Object, State, objectAt}
 use Rattle.machine_rules.proofs.BoundsLaws.{BoundedObject, frame-bounded, object-bounded}
-use Rattle.lists.specs.Contains.{contains}
-use Rattle.lists.specs.Passing.{passing}
-use Rattle.authority_rules.specs.Authority.{isResource, isHolder, frameHolder, holderOf, slotsIf, slotsOf, ownValues, reached, holds, authority}
+use Rattle.authority_rules.specs.Authority.{isResource, isHolder, frameHolder, holderOf, slotsIf, slotsOf, ownValues, reached}
 use Rattle.authority_rules.proofs.HoldingLaws.{resource-made}
 use Rattle.table.specs.Layout.{objectAddress, keptAddress, fieldAddress, slotAddress}
 use Rattle.table.specs.View.{cell, sheetIn}
@@ -30,14 +28,10 @@ use Rattle.machine_state.proofs.HeldLaws.{objects-count, slots-count}
 use Rattle.machine_steps.specs.Running.{Running}
 use Rattle.machine_steps.proofs.FacingLaws.{frames-few, objects-few, object-is}
 use Rattle.machine_steps.proofs.OwnLaws.{form-there}
-use Rattle.authority_marks.specs.Marked.{MarksOnly, MarksCleared, Added}
+use Rattle.authority_marks.specs.Marked.{MarksOnly, Added}
 use Rattle.authority_marks.proofs.MarkLaws.{added-before}
-use Rattle.lists.specs.PutAt.{begun}
-use Rattle.authority.specs.Laid.{Stored, Slots, FrameMarked, Below, BelowMarked, OwnSmall, isReached, Written}
-use Rattle.authority.specs.Reach.{ReachMarked, AuthorityWritten}
+use Rattle.authority.specs.Laid.{Stored, Slots, FrameMarked, Below, BelowMarked, OwnSmall}
 use Rattle.authority.proofs.BelowLaws.{marks-sheet, marks-objects, marks-slots-in, marks-stored, marks-slots}
-use Rattle.authority.proofs.MarkedRunLaws.{marks-state}
-use Rattle.lists.proofs.PassingLaws.{passing-same}
 
 -- what a running state has in range
 
@@ -173,7 +167,7 @@ module _ {w : List ℕ} {t : Top} {k : Tally} (r : Running w t k) (h : ℕ) {d :
       unfolding all-slots
       reach-main e = subst (λ (xs : List ℕ). Added w xs w₃) (sym (reached-main (sheetIn w) (stateIn (sheetIn w) w t k) h e)) slots-added
 
-      module _ (holder : T (isHolder (sheetIn w) (stateIn (sheetIn w) w t k) h)) (other : h ≡ 256 → ⊥) where
+      module _ (holder : T (isHolder (sheetIn w) (objectsIn (sheetIn w) w (k .objects)) h)) (other : h ≡ 256 → ⊥) where
         resource : T (isResource (sheetIn w) (objectsIn (sheetIn w) w (k .objects)) h)
         resource = subst (λ (x : Bool). T (x || isResource (sheetIn w) (objectsIn (sheetIn w) w (k .objects)) h)) (ne-eqb h 256 other) holder
 
@@ -199,39 +193,3 @@ module _ {w : List ℕ} {t : Top} {k : Tally} (r : Running w t k) (h : ℕ) {d :
             (ap (λ (os : List Object). ownValues h (objectAt os h) ++ all-slots) (marks-objects w w₃ only₃ (k .objects))
             ∙ sym (reached-object (sheetIn w) (stateIn (sheetIn w) w t k) h other (T→true (isResource (sheetIn w) (objectsIn (sheetIn w) w (k .objects)) h) resource)))
             (added-before w w₃ w₄ all-slots (ownValues h (objectAt (objectsIn (sheetIn w₃) w₃ (k .objects)) h)) slots-added a)
-
--- marks that were cleared, and what h reaches added to them
-pub reach-marked : {w w₁ w′ : List ℕ} {t : Top} {k : Tally} {h : ℕ} → Running w t k → MarksCleared w w₁ → Added w₁ (reached (sheetIn w₁) (stateIn (sheetIn w₁) w₁ t k) h) w′ → ReachMarked w t k h w′
-reach-marked {w} {w₁} {w′} {t} {k} {h} r c a =
-    record {
-      only = only-trans (c .only) (a .only);
-      told = λ b l.
-          a .told b l
-          ∙ (λ i. c .told b l i || contains (reached (marks-sheet w w₁ (c .only) i) (marks-state w w₁ (c .only) t k r i) h) b);
-    }
-
--- WHAT IS WRITTEN
-
-module _ {w : List ℕ} {t : Top} {k : Tally} (r : Running w t k) {h : ℕ} {w′ : List ℕ} (m : ReachMarked w t k h w′) where
-  pub written-stored : Stored w′ (k .objects)
-  written-stored = marks-stored w w′ (m .only) (k .objects) (run-stored w t k r)
-
-  same-test : (b : ℕ) → b < k .objects → isReached w′ (k .objects) b ≡ holds (sheetIn w) (stateIn (sheetIn w) w t k) h b
-  unfolding holds
-  same-test b l =
-      (λ i. m .told b (omega (arith, objects-few w t k r)) i && isResource (marks-sheet w w′ (m .only) i) (marks-objects w w′ (m .only) (k .objects) i) b)
-      ∙ and-comm (contains (reached (sheetIn w) (stateIn (sheetIn w) w t k) h) b) (isResource (sheetIn w) (objectsIn (sheetIn w) w (k .objects)) b)
-
-  same-list : passing (isReached w′ (k .objects)) 0 (k .objects) ≡ authority (sheetIn w) (stateIn (sheetIn w) w t k) h
-  unfolding authority
-  same-list =
-      passing-same (isReached w′ (k .objects)) (holds (sheetIn w) (stateIn (sheetIn w) w t k) h) 0 (k .objects) (λ b l u. same-test b (omega arith))
-      ∙ ap (passing (holds (sheetIn w) (stateIn (sheetIn w) w t k) h) 0) (sym (objects-count (sheetIn w) w (k .objects)))
-
-  pub authority-written : {result result′ : List ℕ} {c : ℕ} → Written (isReached w′ (k .objects)) (k .objects) result result′ c → AuthorityWritten w t k h w′ result result′ c
-  authority-written {result} x =
-      record {
-        only = m .only;
-        counted = x .counted ∙ ap length same-list;
-        left = x .left ∙ ap (λ (ys : List ℕ). begun ys result) same-list;
-      }

@@ -5,15 +5,14 @@ use mathlib.Core.Path.{_≡_}
 use mathlib.Core.List.{List, [], _∷_, _++_, map}
 use lib.ListN.{length}
 use Rattle.machine_rules.specs.declared.Tally.{Tally}
-use Rattle.machine_rules.specs.State.{State}
 use Rattle.lists.specs.Passing.{addIf}
 use Rattle.authority_rules.specs.Authority.{isResource}
 use Rattle.authority_rules.specs.Report.{Holding, holdingOf, holders}
 use Rattle.table.specs.View.{sheetIn}
 use Rattle.machine_state.specs.declared.Top.{Top}
-use Rattle.machine_state.specs.Held.{stateIn}
 use Rattle.authority_marks.specs.Marked.{MarksOnly}
 use Rattle.lists.specs.PutAt.{putAt}
+use Rattle.authority.specs.Group.{heldState}
 
 -- a holder's entry: its number, how many it holds, and which
 abbrev pub entryOf : Holding → List ℕ
@@ -27,10 +26,6 @@ entries (x ∷ xs) = entryOf x ++ entries xs
 -- the numbers that entries can take: 257 holders with 256 resources each
 abbrev pub everySize : ℕ
 everySize = 66306
-
--- the state that the buffer holds, of its own sheet
-abbrev pub heldState : List ℕ → Top → Tally → State
-heldState w t k = stateIn (sheetIn w) w t k
 
 -- some holders' entries, put at a place; r is the place after them; of the work buffer only marks change
 pub record EntriesWritten (w : List ℕ) (t : Top) (k : Tally) (hs : List ℕ) (w′ : List ℕ) (at : ℕ) (result result′ : List ℕ) (r : ℕ) : Type 0 where

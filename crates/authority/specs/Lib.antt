@@ -1,3 +1,3 @@
 pub mod Laid
-pub mod Reach
+pub mod Group
 pub mod Every

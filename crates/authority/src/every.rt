@@ -5,10 +5,11 @@ ghost use lib.Dec.{T};
 ghost use lib.ListN.{length};
 ghost use Rattle.authority_rules.specs.Authority.{isHolder};
 ghost use Rattle.table.specs.View.{sheetIn};
+ghost use Rattle.machine_state.specs.Held.{objectsIn};
 ghost use Rattle.machine_steps.specs.Running.{Running};
-ghost use Rattle.authority.specs.Every.{everySize, heldState, EntriesWritten, ifResource, EveryWritten};
+ghost use Rattle.authority.specs.Every.{everySize, EntriesWritten, ifResource, EveryWritten};
+use crate::group::write_group;
 use crate::is_resource;
-use crate::reach::write_authority;
 use machine_rules::Tally;
 use machine_state::Top;
 use machine_state::narrow;
@@ -22,12 +23,13 @@ fn write_entry(
     result: &mut [u16],
     at: usize,
 ) -> usize
-    requires { ⌜ Running (now work) top tally × T (isHolder (sheetIn (now work)) (heldState (now work) top tally) h) × (at + 258 ≤ everySize) × (everySize ≤ length (now result)) ⌝ }
+    requires { ⌜ Running (now work) top tally × T (isHolder (sheetIn (now work)) (objectsIn (sheetIn (now work)) (now work) (tally .objects)) h) × (at + 258 ≤ everySize) × (everySize ≤ length (now result)) ⌝ }
     ensures { λ r. ⌜ EntriesWritten (now (work .entry)) top tally (h ∷ []) (now (work .exit)) at (now (result .entry)) (now (result .exit)) r ⌝ }
 {
     let from = at + 2;
-    let count = write_authority(work, top, tally, h, &mut result[from..]);
-    result[at] = narrow(h);
+    let listed: [u16; 1] = [narrow(h)];
+    let count = write_group(work, top, tally, &listed, &mut result[from..]);
+    result[at] = listed[0];
     result[at + 1] = narrow(count);
     from + count
 }

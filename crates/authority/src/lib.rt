@@ -12,6 +12,7 @@ use table::rows::wide;
 
 pub mod collect;
 pub mod every;
+pub mod group;
 pub mod own;
 pub mod reach;
 

@@ -1,17 +1,13 @@
-// A holder's authority in the state that a run left: all that it can reach is marked, and the resources among it are written.
+// What a holder can reach in the state that a run left, marked.
 ghost use mathlib.Core.Path.{_≡_};
-ghost use mathlib.Core.Bool.{_||_};
-ghost use Prim.Native.Nat.{_≤_};
-ghost use lib.Dec.{T, eqb};
-ghost use lib.ListN.{length};
-ghost use Rattle.authority_rules.specs.Authority.{mainHolder, isResource, isHolder, reached};
+ghost use lib.Dec.{T};
+ghost use Rattle.authority_rules.specs.Authority.{isHolder, reached};
 ghost use Rattle.table.specs.View.{sheetIn};
-ghost use Rattle.machine_state.specs.Held.{objectsIn, stateIn};
+ghost use Rattle.machine_state.specs.Held.{objectsIn};
 ghost use Rattle.machine_steps.specs.Running.{Running};
 ghost use Rattle.authority_marks.specs.Marked.{Added};
 ghost use Rattle.authority.specs.Laid.{Stored};
-ghost use Rattle.authority.specs.Reach.{AuthorityWritten};
-use crate::collect::write_reached;
+ghost use Rattle.authority.specs.Group.{heldState};
 use crate::is_resource;
 use crate::mark_below;
 use crate::mark_frame;
@@ -22,7 +18,7 @@ use machine_state::Top;
 // Whether number h is a holder, among n objects: main, or a resource object.
 pub fn is_holder(work: &[u16], n: usize, h: usize) -> bool
     requires { ⌜ Stored (now work) n ⌝ }
-    ensures { λ r. ⌜ r ≡ (eqb h mainHolder || isResource (sheetIn (now (work .entry))) (objectsIn (sheetIn (now (work .entry))) (now (work .entry)) n) h) ⌝ }
+    ensures { λ r. ⌜ r ≡ isHolder (sheetIn (now (work .entry))) (objectsIn (sheetIn (now (work .entry))) (now (work .entry)) n) h ⌝ }
 {
     if h == 256 {
         return true;
@@ -31,9 +27,9 @@ pub fn is_holder(work: &[u16], n: usize, h: usize) -> bool
 }
 
 // Marks what holder h can reach, beside what is marked: what is its own, and the filled slots of its frames.
-fn mark_reached(work: &mut [u16], top: Top, tally: Tally, h: usize)
-    requires { ⌜ Running (now work) top tally × T (isHolder (sheetIn (now work)) (stateIn (sheetIn (now work)) (now work) top tally) h) ⌝ }
-    ensures { λ r. ⌜ Added (now (work .entry)) (reached (sheetIn (now (work .entry))) (stateIn (sheetIn (now (work .entry))) (now (work .entry)) top tally) h) (now (work .exit)) ⌝ }
+pub fn mark_reached(work: &mut [u16], top: Top, tally: Tally, h: usize)
+    requires { ⌜ Running (now work) top tally × T (isHolder (sheetIn (now work)) (objectsIn (sheetIn (now work)) (now work) (tally .objects)) h) ⌝ }
+    ensures { λ r. ⌜ Added (now (work .entry)) (reached (sheetIn (now (work .entry))) (heldState (now (work .entry)) top tally) h) (now (work .exit)) ⌝ }
 {
     let n = tally.objects;
     let d = tally.frames - 1;
@@ -43,20 +39,4 @@ fn mark_reached(work: &mut [u16], top: Top, tally: Tally, h: usize)
         return;
     }
     mark_own(work, n, h);
-}
-
-// Writes holder h's authority, ascending; answers how many it has.
-pub fn write_authority(
-    work: &mut [u16],
-    top: Top,
-    tally: Tally,
-    h: usize,
-    result: &mut [u16],
-) -> usize
-    requires { ⌜ Running (now work) top tally × T (isHolder (sheetIn (now work)) (stateIn (sheetIn (now work)) (now work) top tally) h) × (256 ≤ length (now result)) ⌝ }
-    ensures { λ r. ⌜ AuthorityWritten (now (work .entry)) top tally h (now (work .exit)) (now (result .entry)) (now (result .exit)) r ⌝ }
-{
-    authority_marks::clear_marks(work);
-    mark_reached(work, top, tally, h);
-    write_reached(work, tally.objects, result)
 }

@@ -30,7 +30,7 @@ module _ (w : List ℕ) (budget : ℕ) (w₁ : List ℕ) (halt : Halt) (s : Shee
   report-is : reportOf (sheetIn w) (run (sheetIn w) budget) ≡ reported a (holdings (sheetIn w₁) (haltedState w₁ halt))
   report-is =
       ap (reportOf (sheetIn w)) (s .ran)
-      ∙ sym (λ i. reported (ea i) (holdings (run-sheet-same w budget w₁ halt s i) (haltedState w₁ halt)))
+      ∙ sym (λ i. reported (ea i) (holdings (run-sheet-same s i) (haltedState w₁ halt)))
 
   pub report-told : (c′ : ℕ) → c′ ≡ c → ReportTold (reportOf (sheetIn w) (run (sheetIn w) budget)) w result w′ result′ (ReportReply.Reported a c′)
   report-told c′ ec =

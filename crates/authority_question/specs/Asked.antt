@@ -1,5 +1,5 @@
--- What the authority question and the report promise for every text, budget and holder, and for every work buffer and result
--- buffer. Stands on the rules' answers.
+-- What the authority question, of a list of holders and of one, and the report promise for every text, budget and list, and for
+-- every work buffer and result buffer. Stands on the rules' answers.
 use Prim.Native.Nat.{ℕ}
 use mathlib.Core.List.{List, []}
 use lib.ListN.{length}
@@ -7,6 +7,7 @@ use Rattle.sheet_rules.specs.declared.Reason.the-variants.{BufferTooShort}
 use Rattle.authority_rules.specs.declared.AuthorityReply.{AuthorityReply}
 use Rattle.authority_rules.specs.declared.ReportReply.{ReportReply}
 use Rattle.authority_rules.specs.AuthorityQuestion.{Held, held, notHeld, authorityHeld}
+use Rattle.authority_rules.specs.Group.{groupHeld}
 use Rattle.authority_rules.specs.Report.{Report, reported, notReported, report}
 use Rattle.question.specs.Asked.{Told, Asked}
 use Rattle.authority.specs.Every.{entries, everySize}
@@ -26,9 +27,14 @@ heldNumbers (notHeld r n) = []
 abbrev pub HeldTold : Held → (w result w′ result′ : List ℕ) → AuthorityReply → Type 0
 HeldTold x w result w′ result′ r = Told (heldReply x) (heldNumbers x) w result w′ result′ r
 
+abbrev pub HeldAsked : Held → (w result w′ result′ : List ℕ) → AuthorityReply → Type 0
+HeldAsked x w result w′ result′ r = Asked 256 (heldReply x) (AuthorityReply.Refused BufferTooShort 0) (heldNumbers x) w result w′ result′ r
+
+abbrev pub GroupAsked : (text : List ℕ) (budget : ℕ) (hs w result w′ result′ : List ℕ) → AuthorityReply → Type 0
+GroupAsked text budget hs w result w′ result′ r = HeldAsked (groupHeld text budget hs) w result w′ result′ r
+
 abbrev pub AuthorityAsked : (text : List ℕ) (budget h : ℕ) (w result w′ result′ : List ℕ) → AuthorityReply → Type 0
-AuthorityAsked text budget h w result w′ result′ r =
-    Asked 256 (heldReply (authorityHeld text budget h)) (AuthorityReply.Refused BufferTooShort 0) (heldNumbers (authorityHeld text budget h)) w result w′ result′ r
+AuthorityAsked text budget h w result w′ result′ r = HeldAsked (authorityHeld text budget h) w result w′ result′ r
 
 -- THE REPORT
 

@@ -22,9 +22,12 @@ pub resource-below : (s : Sheet) (os : List Object) (b : ℕ) → T (isResource 
 unfolding isResource
 resource-below s os b t = ltb→lt b (length os) (and-left (ltb b (length os)) _ t)
 
+-- what is held is an object
+pub held-below : (s : Sheet) (σ : State) (h b : ℕ) → T (holds s σ h b) → b < length (σ .objects)
+unfolding holds
+held-below s σ h b t = resource-below s (σ .objects) b (and-left (isResource s (σ .objects) b) (contains (reached s σ h) b) t)
+
 -- a number is in a holder's authority exactly when the holder holds it
 pub authority-holds : (s : Sheet) (σ : State) (h b : ℕ) → contains (authority s σ h) b ≡ holds s σ h b
-unfolding authority holds
-authority-holds s σ h b =
-    passing-exactly (holds s σ h) (length (σ .objects)) b
-    (λ t. resource-below s (σ .objects) b (and-left (isResource s (σ .objects) b) (contains (reached s σ h) b) t))
+unfolding authority
+authority-holds s σ h b = passing-exactly (holds s σ h) (length (σ .objects)) b (held-below s σ h b)

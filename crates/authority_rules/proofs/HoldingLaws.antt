@@ -82,17 +82,17 @@ pub record Holds (s : Sheet) (σ : State) (h b : ℕ) : Type 0 where
 
 module _ (s : Sheet) (σ : State) (h b : ℕ) where
   -- what holds something is a holder: a number that is none, such as that of an object not yet made, has no authority
-  pub holds-holder : Holds s σ h b → T (isHolder s σ h)
+  pub holds-holder : Holds s σ h b → T (isHolder s (σ .objects) h)
   holds-holder p = go (p .reaches)
     where
       os : List Object
       os = σ .objects
 
-      pick : (h ≡ mainHolder) ⊎ T (isResource s os h) → T (isHolder s σ h)
+      pick : (h ≡ mainHolder) ⊎ T (isResource s os h) → T (isHolder s (σ .objects) h)
       pick (inl e) = or-left (eqb h mainHolder) (isResource s os h) (true→T (eqb h mainHolder) (eq-eqb h mainHolder e))
       pick (inr t) = or-right (eqb h mainHolder) (isResource s os h) t
 
-      go : Reaches s os (frames σ) h b → T (isHolder s σ h)
+      go : Reaches s os (frames σ) h b → T (isHolder s (σ .objects) h)
       go (by-own t i) = pick (inr t)
       go (by-slot q) = pick (slot-holder s os h b (frames σ) q)
 

@@ -1,7 +1,9 @@
 pub mod Opened
 pub mod CasesHold
 pub mod AuthorityCases
+pub mod GroupCases
 pub mod AuthorityLaws
+pub mod GroupLaws
 pub mod ReportLaws
 pub mod HoldingLaws
 pub mod StableLaws
@@ -14,3 +16,5 @@ pub mod GainLaws
 pub mod GuaranteeHolds
 pub mod GuaranteeUsed
 pub mod GainGives
+pub mod GroupGuaranteeHolds
+pub mod GroupGuaranteeUsed

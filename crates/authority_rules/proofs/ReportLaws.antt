@@ -23,7 +23,7 @@ eqb-sym : (a b : ℕ) → eqb a b ≡ eqb b a
 eqb-sym a b = T-ext (eqb a b) (eqb b a) (λ t. true→T (eqb b a) (eq-eqb b a (sym (eqb→eq a b t)))) (λ t. true→T (eqb a b) (eq-eqb a b (sym (eqb→eq b a t))))
 
 -- a number is among the holders exactly when it is one
-pub holders-exactly : (s : Sheet) (σ : State) (h : ℕ) → contains (holders s σ) h ≡ isHolder s σ h
+pub holders-exactly : (s : Sheet) (σ : State) (h : ℕ) → contains (holders s σ) h ≡ isHolder s (σ .objects) h
 unfolding contains
 holders-exactly s σ h =
     λ i. eqb-sym mainHolder h i || passing-exactly (isResource s (σ .objects)) (length (σ .objects)) h (resource-below s (σ .objects) h) i

@@ -26,8 +26,8 @@ unfoldable pub isResource : Sheet → List Object → ℕ → Bool
 isResource s os o = ltb o (length os) && isResourceKind ((rowOfForm s ((objectAt os o) .form)) .kind)
 
 -- a holder is main or a resource object (Who holds what)
-abbrev pub isHolder : Sheet → State → ℕ → Bool
-isHolder s σ h = eqb h mainHolder || isResource s (σ .objects) h
+abbrev pub isHolder : Sheet → List Object → ℕ → Bool
+isHolder s os h = eqb h mainHolder || isResource s os h
 
 -- all frames of a state, from the top down (Who holds what)
 abbrev pub frames : State → List Frame

@@ -19,7 +19,7 @@ pub data Held : Type 0 where
 
 -- after the run: no such object, a pure one, or a number over 256 is refused (Turned away, 11)
 abbrev pub heldIn : Sheet → State → ℕ → Held
-heldIn s σ h = cond (isHolder s σ h) (held (authority s σ h)) (notHeld NoHolder 0)
+heldIn s σ h = cond (isHolder s (σ .objects) h) (held (authority s σ h)) (notHeld NoHolder 0)
 
 -- the authority of holder h in the state that the run of a text within a budget leaves; only an accepted sheet is run
 -- (Turned away, 11)

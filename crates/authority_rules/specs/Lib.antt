@@ -2,6 +2,8 @@ pub mod Authority
 pub mod Gain
 pub mod Guarantee
 pub mod AuthorityQuestion
+pub mod Group
+pub mod GroupGain
 pub mod Report
 pub mod Printed
 pub mod Cases

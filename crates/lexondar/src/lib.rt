@@ -9,6 +9,7 @@ ghost use Rattle.machine_rules.specs.Steps.{runReply};
 ghost use Rattle.authority_rules.specs.declared.AuthorityReply.{AuthorityReply as AuthorityReplied};
 ghost use Rattle.authority_rules.specs.declared.ReportReply.{ReportReply as Reported};
 ghost use Rattle.authority_rules.specs.AuthorityQuestion.{authorityHeld};
+ghost use Rattle.authority_rules.specs.Group.{groupHeld};
 ghost use Rattle.authority_rules.specs.Report.{report};
 ghost use Rattle.question.specs.Asked.{Asked, AskedAlone};
 ghost use Rattle.authority.specs.Every.{everySize};
@@ -56,6 +57,20 @@ pub extern "C" fn lexondar_authority(
     ensures { λ r. ⌜ Asked 256 (authorityResult (heldReply (authorityHeld (now (text .entry)) budget h))) (authorityResult (AuthorityReplied.Refused BufferTooShort 0)) (heldNumbers (authorityHeld (now (text .entry)) budget h)) (now (work .entry)) (now (result .entry)) (now (work .exit)) (now (result .exit)) r ⌝ }
 {
     results::authority_result(authority_question::ask_authority(text, budget, h, work, result))
+}
+
+// What a list of holders holds together after the run of a text's sheet within a budget.
+#[no_mangle]
+pub extern "C" fn lexondar_group(
+    text: &[u8],
+    budget: u32,
+    holders: &[u16],
+    work: &mut [u16],
+    result: &mut [u16],
+) -> AuthorityResult
+    ensures { λ r. ⌜ Asked 256 (authorityResult (heldReply (groupHeld (now (text .entry)) budget (now (holders .entry))))) (authorityResult (AuthorityReplied.Refused BufferTooShort 0)) (heldNumbers (groupHeld (now (text .entry)) budget (now (holders .entry)))) (now (work .entry)) (now (result .entry)) (now (work .exit)) (now (result .exit)) r ⌝ }
+{
+    results::authority_result(authority_question::ask_group(text, budget, holders, work, result))
 }
 
 // The run of a text's sheet within a budget, and every holder's authority after it.

@@ -4,4 +4,5 @@ pub mod PairwiseLaws
 pub mod TabLaws
 pub mod PutAtLaws
 pub mod ContainsLaws
+pub mod AnyAllLaws
 pub mod PassingLaws

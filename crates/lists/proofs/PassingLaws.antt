@@ -94,3 +94,9 @@ unfolding passing
 passing-same p q i zero h = refl
 passing-same p q i (suc k) h =
     λ x. addIf (h i (omega arith) (omega arith) x) i (passing-same p q (suc i) k (λ b l u. h b (omega arith) (omega arith)) x)
+
+-- a test that nothing passes
+pub passing-none : (i k : ℕ) → passing (λ b. false) i k ≡ []
+unfolding passing
+passing-none i zero = refl
+passing-none i (suc k) = passing-none (suc i) k

@@ -3,4 +3,5 @@ pub mod Pairwise
 pub mod Tab
 pub mod PutAt
 pub mod Contains
+pub mod AnyAll
 pub mod Passing
