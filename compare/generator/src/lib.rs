@@ -8,6 +8,7 @@ mod code;
 mod damage;
 mod draft;
 mod edges;
+mod group;
 mod mill;
 mod mutate;
 mod plan;
@@ -19,6 +20,8 @@ mod tower;
 
 use draft::{render, Draft};
 use rng::Rng;
+
+pub use group::group;
 
 /// After this number of indexes the kinds come round again.
 pub const ROTATION: u64 = 20;

@@ -2,6 +2,7 @@
 
 use crate::census::{census, NAMES};
 use crate::rng::Rng;
+use second::Refusal;
 
 /// Budgets at which the sheets of a report are run.
 const BUDGETS: [u32; 12] = [0, 1, 2, 7, 8, 20, 65, 66, 500, 10_000, 10_000, 100_000];
@@ -11,13 +12,16 @@ const BUDGETS: [u32; 12] = [0, 1, 2, 7, 8, 20, 65, 66, 500, 10_000, 10_000, 100_
 pub struct Report {
     pub sheets: u64,
     pub accepted: u64,
-    /// By refusal number; 11 is asked of accepted sheets as well.
+    /// By refusal number; 11 is asked of accepted sheets as well, for a
+    /// single holder.
     pub refusals: [u64; 12],
     /// The refusals whose line is in the second half of the sheet.
     pub late: [u64; 12],
     pub outcomes: [u64; 4],
     /// A random pair of rows of each sheet: fits not, fits, is not there.
     pub fits: [u64; 3],
+    /// A list of holders for each accepted sheet: answered, refused with 11.
+    pub groups: [u64; 2],
     /// By the names of the census.
     pub uses: [u64; NAMES.len()],
 }
@@ -26,13 +30,15 @@ pub struct Report {
 pub fn report(seed: u64, count: u64) -> Report {
     let mut report = Report::default();
     for index in 0..count {
-        report.add(&crate::sheet(seed, index), &mut Rng::new(!seed, index));
+        report.add(seed, index);
     }
     report
 }
 
 impl Report {
-    fn add(&mut self, text: &[u8], rng: &mut Rng) {
+    fn add(&mut self, seed: u64, index: u64) {
+        let text = &crate::sheet(seed, index);
+        let rng = &mut Rng::new(!seed, index);
         let budget = match rng.chance(80) {
             true => rng.pick(&BUDGETS),
             false => rng.below(3_000) as u32,
@@ -41,13 +47,7 @@ impl Report {
         self.add_fit(text, rng);
         let answer = match second::run(text, budget) {
             Ok(answer) => answer,
-            Err(refusal) => {
-                self.refusals[refusal.number() as usize] += 1;
-                let lines = text.iter().filter(|byte| **byte == b'\n').count();
-                let late = refusal.line as usize > lines / 2;
-                self.late[refusal.number() as usize] += u64::from(late);
-                return;
-            }
+            Err(refusal) => return self.add_refusal(text, refusal),
         };
         self.accepted += 1;
         self.outcomes[answer.outcome as usize] += 1;
@@ -56,11 +56,21 @@ impl Report {
         if let Err(refusal) = second::authority(text, budget, holder) {
             self.refusals[refusal.number() as usize] += 1;
         }
+        let list = crate::group(seed, index, answer.objects);
+        let refused = second::group(text, budget, &list).is_err();
+        self.groups[usize::from(refused)] += 1;
         if let Ok(sheet) = second::read(text) {
             for (place, used) in census(&sheet).into_iter().enumerate() {
                 self.uses[place] += u64::from(used);
             }
         }
+    }
+
+    fn add_refusal(&mut self, text: &[u8], refusal: Refusal) {
+        self.refusals[refusal.number() as usize] += 1;
+        let lines = text.iter().filter(|byte| **byte == b'\n').count();
+        let late = refusal.line as usize > lines / 2;
+        self.late[refusal.number() as usize] += u64::from(late);
     }
 
     fn add_fit(&mut self, text: &[u8], rng: &mut Rng) {
@@ -97,6 +107,8 @@ impl Report {
         }
         let [no, yes, none] = self.fits;
         lines += &format!("fit 0: {no}, fit 1: {yes}, no such row: {none}\n");
+        let [answered, refused] = self.groups;
+        lines += &format!("group answered: {answered}, no holder: {refused}\n");
         for (name, count) in NAMES.iter().zip(&self.uses) {
             lines += &format!("accepted with {name}: {count}\n");
         }

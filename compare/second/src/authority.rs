@@ -4,6 +4,8 @@ use crate::machine::{Machine, STORE};
 
 /// Main's number as a holder.
 pub const MAIN: u16 = 256;
+/// How many holders a group may list, repeats included.
+pub const GROUP_LIMIT: usize = 16;
 
 /// Whether an object of the state is a resource.
 pub fn is_resource(machine: &Machine, object: u16) -> bool {
@@ -36,8 +38,28 @@ pub fn frame_holders(machine: &Machine) -> Vec<u16> {
 
 /// A holder's authority, ascending; none if the number is no holder.
 pub fn authority_of(machine: &Machine, holder: u32) -> Option<Vec<u16>> {
-    let holder = u16::try_from(holder).ok()?;
     let mut held = [false; STORE];
+    join(machine, holder, &mut held)?;
+    Some(ascending(&held))
+}
+
+/// The joined authority of the listed holders, ascending; none if the list
+/// is too long or has a number that is no holder.
+pub fn group_of(machine: &Machine, holders: &[u32]) -> Option<Vec<u16>> {
+    if holders.len() > GROUP_LIMIT {
+        return None;
+    }
+    let mut held = [false; STORE];
+    for holder in holders {
+        join(machine, *holder, &mut held)?;
+    }
+    Some(ascending(&held))
+}
+
+/// Adds a holder's authority to the marked objects; none if the number is
+/// no holder.
+fn join(machine: &Machine, holder: u32, held: &mut [bool; STORE]) -> Option<()> {
+    let holder = u16::try_from(holder).ok()?;
     let mut hold = |values: &[u16]| {
         for value in values {
             held[usize::from(*value)] |= is_resource(machine, *value);
@@ -59,6 +81,13 @@ pub fn authority_of(machine: &Machine, holder: u32) -> Option<Vec<u16>> {
             hold(machine.frame_slots(frame));
         }
     }
-    let resources = (0..STORE as u16).filter(|object| held[usize::from(*object)]);
-    Some(resources.collect())
+    Some(())
+}
+
+/// The numbers of the marked objects.
+fn ascending(held: &[bool; STORE]) -> Vec<u16> {
+    let objects = 0..STORE as u16;
+    objects
+        .filter(|object| held[usize::from(*object)])
+        .collect()
 }

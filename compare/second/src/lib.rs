@@ -1,5 +1,6 @@
 //! A plain reading of the sheet rules: reader, fit, verdict, bounded run,
-//! authority and printed answer. Every question takes the sheet's text.
+//! authority of a holder or a group, and printed answer. Every question
+//! takes the sheet's text.
 
 #![forbid(unsafe_code)]
 
@@ -14,9 +15,9 @@ mod refusal;
 pub mod sheet;
 mod typing;
 
-pub use authority::MAIN;
+pub use authority::{GROUP_LIMIT, MAIN};
 pub use machine::{Outcome, RunAnswer, NO_VALUE};
-pub use print::{holder_line, print, refusal_lines, PROGRAM_BUDGET};
+pub use print::{group_line, holder_line, print, refusal_lines, PROGRAM_BUDGET};
 pub use reader::read;
 pub use refusal::{Reason, Refusal};
 pub use sheet::Sheet;
@@ -53,6 +54,14 @@ pub fn authority(text: &[u8], budget: u32, holder: u32) -> Result<Vec<u16>, Refu
     let mut machine = machine::Machine::start(&sheet);
     machine.run(budget);
     authority::authority_of(&machine, holder).ok_or(Refusal::at(Reason::NoHolder, 0))
+}
+
+/// The joined authority of the listed holders after the run, ascending.
+pub fn group(text: &[u8], budget: u32, holders: &[u32]) -> Result<Vec<u16>, Refusal> {
+    let sheet = accepted(text)?;
+    let mut machine = machine::Machine::start(&sheet);
+    machine.run(budget);
+    authority::group_of(&machine, holders).ok_or(Refusal::at(Reason::NoHolder, 0))
 }
 
 /// The table of a sheet that passes the refusals 2 to 10.

@@ -12,12 +12,15 @@ usage: second                          judge, run 10,000 steps, print all
        second verdict                  verdict=0 and line=0
        second run BUDGET               run=OUTCOME,STEPS,VALUE,OBJECTS
        second authority BUDGET HOLDER  holder=HOLDER,OBJECT,.. ascending
+       second group BUDGET HOLDER..    group=OBJECT,.. ascending
        second --help                   this text
 
 The sheet is read from standard input. A, B, BUDGET and HOLDER are decimals
 from 0 to 4294967295. Main is holder 256. The bare holder is printed where an
-authority is empty. A refusal is printed as verdict=N and line=L in place of
-the answer, with exit status 0. A wrong command line exits with status 2.
+authority is empty. A group lists any number of holders, or none; more than 16
+are refused. The bare word group is printed where its joined authority is
+empty. A refusal is printed as verdict=N and line=L in place of the answer,
+with exit status 0. A wrong command line exits with status 2.
 ";
 
 /// What the command line asks for.
@@ -27,6 +30,7 @@ enum Question {
     Verdict,
     Run(u32),
     Authority(u32, u32),
+    Group(u32, Vec<u32>),
     Help,
 }
 
@@ -60,6 +64,7 @@ fn question(words: &[&str]) -> Option<Question> {
         ["verdict"] => Question::Verdict,
         ["run", budget] => Question::Run(number(budget)?),
         ["authority", budget, holder] => Question::Authority(number(budget)?, number(holder)?),
+        ["group", budget, holders @ ..] => Question::Group(number(budget)?, numbers(holders)?),
         ["--help"] => Question::Help,
         _ => return None,
     })
@@ -69,6 +74,11 @@ fn question(words: &[&str]) -> Option<Question> {
 fn number(word: &str) -> Option<u32> {
     let digits = word.bytes().all(|byte| byte.is_ascii_digit());
     word.parse().ok().filter(|_| digits)
+}
+
+/// A number for each word; none if a word is no number.
+fn numbers(words: &[&str]) -> Option<Vec<u32>> {
+    words.iter().map(|word| number(word)).collect()
 }
 
 fn answer(question: Question) -> io::Result<()> {
@@ -85,6 +95,9 @@ fn answer(question: Question) -> io::Result<()> {
         Question::Run(budget) => second::run(&text, budget).map(run_line),
         Question::Authority(budget, holder) => {
             second::authority(&text, budget, holder).map(|held| second::holder_line(holder, &held))
+        }
+        Question::Group(budget, holders) => {
+            second::group(&text, budget, &holders).map(|held| second::group_line(&held))
         }
         Question::Help => Ok(String::from(USAGE)),
     };

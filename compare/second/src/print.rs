@@ -40,3 +40,13 @@ pub fn holder_line(holder: u32, authority: &[u16]) -> String {
     }
     line + "\n"
 }
+
+/// The joined authority of a group; the bare key where that is empty.
+pub fn group_line(authority: &[u16]) -> String {
+    let mut line = String::from("group");
+    for (place, object) in authority.iter().enumerate() {
+        line.push(if place == 0 { '=' } else { ',' });
+        line += &object.to_string();
+    }
+    line + "\n"
+}

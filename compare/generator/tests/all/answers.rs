@@ -1,11 +1,12 @@
 //! Laws that every accepted sheet obeys: how authority grows, and how the
 //! answers to the questions belong together.
 
-use generator::sheet;
+use generator::{group, mill, sheet};
 use second::authority::{authority_of, frame_holders, holders, is_resource};
 use second::machine::{Machine, Outcome};
 use second::sheet::Instruction;
-use std::collections::BTreeMap;
+use second::MAIN;
+use std::collections::{BTreeMap, BTreeSet};
 
 /// The authority of each holder of a state.
 type Held = BTreeMap<u16, Vec<u16>>;
@@ -60,29 +61,37 @@ fn allowed(before: &Before, after: &Machine, h: u16, b: u16) -> bool {
     }
 }
 
-/// Follows a run and counts the resources that are new to a holder.
-fn follow(text: &[u8], steps: u32) -> usize {
-    let Ok(sheet) = second::read(text) else {
-        return 0;
-    };
+/// Shows the first steps of a run: what is needed of the state before a
+/// step, the state after it, and who holds what there.
+fn each_step(text: &[u8], steps: u32, mut look: impl FnMut(&Before, &Machine, &Held)) {
+    let sheet = second::read(text).expect("an accepted sheet");
     let mut machine = Machine::start(&sheet);
-    let mut count = 0;
     for budget in 1..=steps {
         let before = before(&machine);
-        if machine.run(budget).outcome != Outcome::Spent && machine.steps < budget {
+        machine.run(budget);
+        if machine.steps < budget {
             break;
         }
-        for (holder, now) in held(&machine) {
-            let old = before.held.get(&holder).cloned().unwrap_or_default();
-            for object in now.into_iter().filter(|object| !old.contains(object)) {
+        look(&before, &machine, &held(&machine));
+    }
+}
+
+/// Follows a run and counts the resources that are new to a holder.
+fn follow(text: &[u8], steps: u32) -> usize {
+    let mut count = 0;
+    each_step(text, steps, |before, after, now| {
+        for (holder, now) in now {
+            let old = before.held.get(holder).cloned().unwrap_or_default();
+            for object in now.iter().filter(|object| !old.contains(object)) {
                 assert!(
-                    allowed(&before, &machine, holder, object),
-                    "step {budget}: {object} is new to {holder}"
+                    allowed(before, after, *holder, *object),
+                    "step {}: {object} is new to {holder}",
+                    after.steps
                 );
                 count += 1;
             }
         }
-    }
+    });
     count
 }
 
@@ -96,6 +105,99 @@ fn authority_grows_by_creation_call_and_return_only() {
         }
     }
     assert!(count > 5_000, "{count} resources were new to a holder");
+}
+
+/// The members of a group, made or not.
+type Group = BTreeSet<u16>;
+
+/// What the members hold together; one that is no holder holds nothing.
+fn joined(held: &Held, group: &Group) -> BTreeSet<u16> {
+    let members = group.iter().filter_map(|member| held.get(member));
+    members.flatten().copied().collect()
+}
+
+/// Why a group may have a resource that no member had before the step.
+#[derive(Clone, Copy)]
+enum Cause {
+    Creation,
+    Call,
+    Return,
+}
+
+/// The cause that lets the group have b after this step, if there is one.
+fn cause(before: &Before, after: &Machine, group: &Group, b: u16) -> Option<Cause> {
+    let holder = |object: u16| object == MAIN || is_resource(after, object);
+    let member = |object: u16| group.contains(&object) && holder(object);
+    let had = before.held[&before.top].contains(&b);
+    let outside = had && !member(before.top);
+    let frame = after.frames.len() - 1;
+    let slots = after.frame_slots(frame);
+    match before.next {
+        Some(Instruction::New { .. }) => {
+            let made = after.objects.len() as u16 - 1;
+            let kept = &after.objects[usize::from(made)].kept;
+            let by = member(before.top) && b == made;
+            let of = member(made) && (b == made || (had && kept.contains(&b)));
+            (by || of).then_some(Cause::Creation)
+        }
+        Some(Instruction::Call { .. }) => {
+            let on = after.frames[frame].receiver.is_some_and(member);
+            (outside && on && b == slots[1]).then_some(Cause::Call)
+        }
+        Some(_) => None,
+        None => {
+            let to = member(frame_holders(after)[frame]);
+            (outside && to && slots.last() == Some(&b)).then_some(Cause::Return)
+        }
+    }
+}
+
+/// Follows a run and counts by their causes the resources that are new to
+/// a group of several.
+fn follow_groups(text: &[u8], steps: u32, groups: &[Group], gains: &mut [u32; 3]) {
+    each_step(text, steps, |before, after, now| {
+        for group in groups {
+            let old = joined(&before.held, group);
+            for object in joined(now, group).difference(&old) {
+                let Some(cause) = cause(before, after, group, *object) else {
+                    panic!("step {}: {object} is new to {group:?}", after.steps);
+                };
+                gains[cause as usize] += u32::from(group.len() > 1);
+            }
+        }
+    });
+}
+
+/// Groups for a run that ends with this many objects: lists, pairs of lists
+/// joined, and all of these without main, which holds the most.
+fn groups(index: u64, objects: u16) -> Vec<Group> {
+    let members = |number| group(15, index * 6 + number, objects).into_iter();
+    let list = |number| members(number).map(|member| member as u16).collect();
+    let mut groups: Vec<Group> = (0..6).map(list).collect();
+    for place in 0..5 {
+        groups.push(&groups[place] | &groups[place + 1]);
+    }
+    for place in 0..groups.len() {
+        groups.push(&groups[place] - &Group::from([MAIN]));
+    }
+    groups
+}
+
+#[test]
+fn a_group_gains_by_creation_call_and_return_only() {
+    let mut gains = [0; 3];
+    for index in 0..600 {
+        for text in [sheet(15, index), mill(15, index)] {
+            if let Ok(run) = second::run(&text, 100) {
+                let groups = groups(index, run.objects);
+                follow_groups(&text, 100, &groups, &mut gains);
+            }
+        }
+    }
+    let [creations, calls, returns] = gains;
+    assert!(creations > 20_000, "{creations} gains by creation");
+    assert!(calls > 600, "{calls} gains by call");
+    assert!(returns > 200, "{returns} gains by return");
 }
 
 #[test]

@@ -2,6 +2,7 @@
 
 mod answers;
 mod edges;
+mod groups;
 mod mills;
 mod report;
 mod sheets;

@@ -22,6 +22,11 @@ fn a_run_of_sheets_reaches_everything() {
         assert!(*uses >= 20, "census {place}: {uses}");
     }
     assert!(report.fits.iter().all(|count| *count > 0));
+    let [answered, not] = report.groups;
+    assert_eq!(answered + not, report.accepted);
+    assert!(answered.min(not) * 3 > report.accepted);
+    let line = format!("group answered: {answered}, no holder: {not}\n");
+    assert!(report.lines().contains(&line));
     for number in 3..=10 {
         assert!(report.late[number] > 0, "no late refusal {number}");
     }

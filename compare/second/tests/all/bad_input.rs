@@ -1,7 +1,7 @@
 //! Bytes that are no sheet.
 
 use crate::common::*;
-use second::{authority, fit, print, run};
+use second::{authority, fit, group, print, run};
 
 /// Every question must give the same refusal.
 fn refused(text: &[u8], number: u32, line: u32) {
@@ -11,6 +11,7 @@ fn refused(text: &[u8], number: u32, line: u32) {
     assert_eq!(pair(fit(text, 0, 0)), expected);
     assert_eq!(pair(run(text, 8)), expected);
     assert_eq!(pair(authority(text, 8, 256)), expected);
+    assert_eq!(pair(group(text, 8, &[256])), expected);
     assert_eq!(print(text), format!("verdict={number}\nline={line}\n"));
 }
 

@@ -45,9 +45,37 @@ fn questions_and_answers() {
 }
 
 #[test]
+fn groups_of_any_length() {
+    let cases: [(&[&str], &str); 8] = [
+        (&["group", "8"], "group\n"),
+        (&["group", "0", "256"], "group\n"),
+        (&["group", "8", "1"], "group=1\n"),
+        (&["group", "8", "2", "256", "1", "2"], "group=1,2\n"),
+        (&["group", "2", "256", "2"], "verdict=11\nline=0\n"),
+        (&["group", "8", "1", "0"], "verdict=11\nline=0\n"),
+        (&["group", "8", "4294967295"], "verdict=11\nline=0\n"),
+        (&["group", "4294967295", "1"], "group=1\n"),
+    ];
+    for (words, expected) in cases {
+        assert_eq!(program(words, CLERK), (expected.into(), 0), "{words:?}");
+    }
+    let words: Vec<&str> = ["group", "8"].into_iter().chain(["256"; 17]).collect();
+    assert_eq!(program(&words[..18], CLERK), ("group=1,2\n".into(), 0));
+    assert_eq!(program(&words, CLERK), ("verdict=11\nline=0\n".into(), 0));
+}
+
+#[test]
 fn refusals_are_answers() {
     let long = vec![b'7'; 70_000];
-    for words in [&[][..], &["verdict"], &["run", "1"], &["fit", "0", "0"]] {
+    let questions: [&[&str]; 6] = [
+        &[],
+        &["verdict"],
+        &["run", "1"],
+        &["fit", "0", "0"],
+        &["group", "1"],
+        &["group", "1", "257"],
+    ];
+    for words in questions {
         assert_eq!(program(words, b""), ("verdict=3\nline=1\n".into(), 0));
         assert_eq!(program(words, &long), ("verdict=2\nline=0\n".into(), 0));
     }
@@ -55,7 +83,7 @@ fn refusals_are_answers() {
 
 #[test]
 fn wrong_command_lines() {
-    let cases: [&[&str]; 9] = [
+    let cases: [&[&str]; 13] = [
         &["fits", "0", "1"],
         &["fit", "0"],
         &["verdict", "0"],
@@ -65,10 +93,15 @@ fn wrong_command_lines() {
         &["run", "4294967296"],
         &["authority", "1"],
         &["run", ""],
+        &["group"],
+        &["group", "x"],
+        &["group", "8", "1", "-1"],
+        &["group", "8", "1,2"],
     ];
     for words in cases {
         assert_eq!(program(words, CLERK), (String::new(), 2), "{words:?}");
     }
     let (help, status) = program(&["--help"], b"");
     assert!(help.contains("run=OUTCOME,STEPS,VALUE,OBJECTS") && status == 0);
+    assert!(help.contains("group BUDGET HOLDER.."));
 }
