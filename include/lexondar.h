@@ -1,14 +1,14 @@
 /*
  * Lexondar: which add-in of a dough-room terminal may touch what.
  *
- * Five questions about a sheet. Each takes the sheet's bytes and a work
+ * Six questions about a sheet. Each takes the sheet's bytes and a work
  * buffer, keeps neither, allocates nothing, and ends. All that is said here
  * of answers and buffers is proved, for every text, every number and every
  * buffer. Link with liblexondar.a (x86-64, System V ABI), which needs nothing
  * but memset.
  *
- * Every pointer is valid for its length, and aligned to its type; the text and
- * the buffers do not overlap. A pointer of length 0 is not null. These are the
+ * Every pointer is valid for its length, and aligned to its type; the text, the
+ * list and the buffers do not overlap. A pointer of length 0 is not null. These are the
  * caller's duties, and the only ones. Two calls at a time need two work
  * buffers.
  */
@@ -25,9 +25,12 @@ extern "C" {
 /* The 16-bit numbers that a work buffer must have. */
 #define LEXONDAR_WORK 32768
 
-/* Those that a result buffer must have, for one holder and for all of them. */
+/* Those that a result buffer must have, for one holder or a list, and for all. */
 #define LEXONDAR_AUTHORITY 256
 #define LEXONDAR_REPORT 66306
+
+/* The holders that a list may have, repeats included. */
+#define LEXONDAR_GROUP 16
 
 /* Main's number as a holder; a resource object's is its own, 0 to 255. */
 #define LEXONDAR_MAIN 256
@@ -52,7 +55,8 @@ enum lexondar_refusal {
     LEXONDAR_NO_SUCH_MEMBER = 9,   /* no such method or field; get or put in main */
     LEXONDAR_MISFIT = 10,          /* a value does not fit, or a new has not its kept values */
     LEXONDAR_NO_HOLDER = 11        /* after the run: no such object, a pure one,
-                                      or a number over 256; line 0 */
+                                      or a number over 256; or over 16 listed;
+                                      line 0 */
 };
 
 /* How a run ended. */
@@ -124,6 +128,19 @@ struct lexondar_authority_result lexondar_authority(const uint8_t *text, size_t 
                                                     uint32_t budget, size_t holder,
                                                     uint16_t *work, size_t work_len,
                                                     uint16_t *result, size_t result_len);
+
+/*
+ * What a list of holders holds together in that state: what at least one of
+ * them holds, each number once, ascending, as for one holder. The list is only
+ * read; its order has no influence, and a holder listed twice counts once. Of
+ * an empty list, count is 0. A list of over 16 numbers, or one with a number
+ * that is no holder, is refusal 11, after the run. Refusals 1 to 11.
+ */
+struct lexondar_authority_result lexondar_group(const uint8_t *text, size_t text_len,
+                                                uint32_t budget, const uint16_t *holders,
+                                                size_t holders_len, uint16_t *work,
+                                                size_t work_len, uint16_t *result,
+                                                size_t result_len);
 
 /*
  * The run's answer and every holder's authority, from one reading and one run.

@@ -1,4 +1,4 @@
-//! The authority of every holder, beside the second program.
+//! The authority of every holder, and of a group, beside the second program.
 
 use crate::pairs::{self, Asked};
 use crate::programs::Question;
@@ -12,14 +12,22 @@ pub fn table() {
     let sheet = sheets::holders();
     let text = sheet.as_bytes();
     check(text);
-    let questions = [Question::Report(u32::MAX), Question::Run(u32::MAX)];
+    let questions = [
+        Question::Report(u32::MAX),
+        Question::Group(u32::MAX, 16),
+        Question::Group(u32::MAX, 1),
+        Question::Run(u32::MAX),
+    ];
     let asked = questions.map(|question| Asked { question, text });
     let pairs = pairs::measure(&asked);
     let mut table = Table::new(&[&["256 objects, 64 frames"], &pairs::HEADS[..]].concat());
     for (name, pair) in [
         ("verdict, run and every holder", pairs[0]),
-        ("verdict and run", pairs[1]),
-        ("every holder alone", pairs[0].less(pairs[1])),
+        ("verdict, run and a group of 16", pairs[1]),
+        ("verdict, run and one holder", pairs[2]),
+        ("verdict and run", pairs[3]),
+        ("every holder alone", pairs[0].less(pairs[3])),
+        ("a group of 16 alone", pairs[1].less(pairs[3])),
     ] {
         table.add([vec![name.to_string()], pair.cells(None)].concat());
     }

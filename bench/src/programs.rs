@@ -1,7 +1,7 @@
 //! The programs that are compared, and the questions that they are asked.
 
 use crate::{plain, threaded};
-use boundary::{entries, REPORT, WORK};
+use boundary::{entries, AUTHORITY, REPORT, WORK};
 use second::machine::Machine;
 use second::{Refusal, RunAnswer, Sheet};
 use std::cell::RefCell;
@@ -23,17 +23,19 @@ const PROGRAMS: [(Program, &str); 4] = [
     (Program::Threaded, "threaded"),
 ];
 
-/// Fit is asked of two rows, a run and a report have a budget.
+/// Fit is asked of two rows, a run and a report have a budget, a group has one
+/// too and its number of members: main, and then the objects from 0 on.
 #[derive(Clone, Copy, Debug)]
 pub enum Question {
     Verdict,
     Fit(u32, u32),
     Run(u32),
     Report(u32),
+    Group(u32, u32),
 }
 
 /// A refusal's number and line, or 0; then 1 for yes, or the outcome, steps,
-/// value and number of objects; and how many numbers a report has.
+/// value and number of objects; and how many numbers a report or a group has.
 pub type Answer = [u32; 7];
 
 /// A question that is ready to be asked again and again.
@@ -76,6 +78,7 @@ impl Question {
             Question::Fit(a, b) => ("fit", a, b),
             Question::Run(budget) => ("run", budget, 0),
             Question::Report(budget) => ("report", budget, 0),
+            Question::Group(budget, members) => ("group", budget, members),
         };
         [word.to_string(), a.to_string(), b.to_string()]
     }
@@ -87,6 +90,7 @@ impl Question {
             "fit" => Some(Question::Fit(a, b)),
             "run" => Some(Question::Run(a)),
             "report" => Some(Question::Report(a)),
+            "group" => Some(Question::Group(a, b)),
             _ => None,
         }
     }
@@ -125,7 +129,21 @@ fn library(question: Question, text: &[u8]) -> Call<'_> {
                 [g.refusal, g.line, run[0], run[1], run[2], run[3], g.count]
             })
         }
+        Question::Group(budget, members) => {
+            let (list, mut result) = (group::<u16>(members), vec![0; AUTHORITY]);
+            Box::new(move || {
+                let text = black_box(text);
+                let g = with_work(|work| boundary::group(text, budget, &list, work, &mut result));
+                [g.refusal, g.line, 0, 0, 0, 0, g.count]
+            })
+        }
     }
+}
+
+/// Main, and then the objects from 0 on.
+fn group<T: From<u16>>(members: u32) -> Vec<T> {
+    let all = std::iter::once(256).chain(0..);
+    all.take(members as usize).map(T::from).collect()
 }
 
 fn second_program(question: Question, text: &[u8]) -> Call<'_> {
@@ -150,6 +168,15 @@ fn second_program(question: Question, text: &[u8]) -> Call<'_> {
                 answer[6] = black_box(entries(&machine)).len() as u32;
                 answer
             })
+        }
+        Question::Group(budget, members) => {
+            let list = group::<u32>(members);
+            Box::new(
+                move || match second::group(black_box(text), budget, &list) {
+                    Ok(held) => [0, 0, 0, 0, 0, 0, black_box(held).len() as u32],
+                    Err(refusal) => judged(Err(refusal)),
+                },
+            )
         }
     }
 }

@@ -53,7 +53,7 @@ impl Reason {
             Reason::ImpureForm => "a pure row's form has a field or keeps a resource",
             Reason::NoSuchMember => "there is no such method or field",
             Reason::Misfit => "a value does not fit",
-            Reason::NoHolder => "there is no such holder",
+            Reason::NoHolder => "there is no such holder, or over 16 are listed",
         }
     }
 }

@@ -58,7 +58,7 @@ pub fn run(text: &[u8], budget: u32, work: &mut Work) -> Result<Run, Refusal> {
     ))
 }
 
-/// Room for a holder's authority.
+/// Room for the authority of a holder, or of a group of them.
 pub struct Held(Box<[u16; raw::AUTHORITY]>);
 
 impl Held {
@@ -83,6 +83,21 @@ pub fn authority<'a>(
     held: &'a mut Held,
 ) -> Result<&'a [u16], Refusal> {
     let given = raw::authority(text, budget, holder, &mut work.0[..], &mut held.0[..]);
+    Refusal::check(given.refusal, given.line)?;
+    Ok(&held.0[..given.count as usize])
+}
+
+/// The resource objects that a group of holders holds together, ascending:
+/// those that at least one of them holds. The order of the list has no
+/// influence, and a holder listed twice counts once; over 16 are refused.
+pub fn group<'a>(
+    text: &[u8],
+    budget: u32,
+    holders: &[u16],
+    work: &mut Work,
+    held: &'a mut Held,
+) -> Result<&'a [u16], Refusal> {
+    let given = raw::group(text, budget, holders, &mut work.0[..], &mut held.0[..]);
     Refusal::check(given.refusal, given.line)?;
     Ok(&held.0[..given.count as usize])
 }

@@ -6,6 +6,9 @@ pub const WORK: usize = 32_768;
 /// The places of the result buffer that an authority asks for.
 pub const AUTHORITY: usize = 256;
 
+/// The holders that a list may have, repeats included.
+pub const GROUP: usize = 16;
+
 /// The places of the result buffer that a report asks for: two and 256 for
 /// main and for each of 256 objects.
 pub const REPORT: usize = 66_306;
@@ -98,6 +101,17 @@ extern "C" {
         result: *mut u16,
         result_len: usize,
     ) -> AuthorityResult;
+    fn lexondar_group(
+        text: *const u8,
+        text_len: usize,
+        budget: u32,
+        holders: *const u16,
+        holders_len: usize,
+        work: *mut u16,
+        work_len: usize,
+        result: *mut u16,
+        result_len: usize,
+    ) -> AuthorityResult;
     fn lexondar_report(
         text: *const u8,
         text_len: usize,
@@ -145,8 +159,8 @@ pub fn run(text: &[u8], budget: u32, work: &mut [u16]) -> RunResult {
     }
 }
 
-/// The authority of a holder after a run of the text's sheet, for at most so
-/// many steps: ascending, at the start of the result buffer.
+/// The authority of a holder after a run of the text's sheet, for at most
+/// `budget` steps: ascending, at the start of the result buffer.
 pub fn authority(
     text: &[u8],
     budget: u32,
@@ -161,6 +175,31 @@ pub fn authority(
             text.len(),
             budget,
             holder,
+            work.as_mut_ptr(),
+            work.len(),
+            result.as_mut_ptr(),
+            result.len(),
+        )
+    }
+}
+
+/// What a list of holders holds together after a run of the text's sheet, for
+/// at most `budget` steps: ascending, at the start of the result buffer.
+pub fn group(
+    text: &[u8],
+    budget: u32,
+    holders: &[u16],
+    work: &mut [u16],
+    result: &mut [u16],
+) -> AuthorityResult {
+    // SAFETY: as above.
+    unsafe {
+        lexondar_group(
+            text.as_ptr(),
+            text.len(),
+            budget,
+            holders.as_ptr(),
+            holders.len(),
             work.as_mut_ptr(),
             work.len(),
             result.as_mut_ptr(),

@@ -1,5 +1,5 @@
 /*
- * Asks all five questions about each sheet of a file, with buffers that are
+ * Asks all six questions about each sheet of a file, with buffers that are
  * exactly as long as asked and were never written, so that a memory checker
  * sees every read of what nobody wrote and every step outside. The file has
  * each sheet's length in four bytes, low byte first, and then the sheet.
@@ -41,6 +41,30 @@ static void add_result(const uint16_t *result, uint32_t count) {
         add(result[i]);
 }
 
+/* The number at a place of a list: main and the first objects in turn. */
+static uint16_t listed(size_t i) {
+    return i % 2 == 0 ? LEXONDAR_MAIN : (uint16_t)(i / 2);
+}
+
+/* What lists hold together, each exactly as long as its numbers, and only read. */
+static void ask_groups(const uint8_t *text, size_t length, uint32_t budget, uint16_t *work,
+                       uint16_t *held) {
+    for (size_t members = 0; members <= LEXONDAR_GROUP + 1; members++) {
+        uint16_t *list = room(members * sizeof *list);
+        for (size_t i = 0; i < members; i++)
+            list[i] = listed(i);
+        struct lexondar_authority_result group =
+            lexondar_group(text, length, budget, list, members, work, LEXONDAR_WORK, held,
+                           LEXONDAR_AUTHORITY);
+        add_fields(3, (uint32_t[]){group.refusal, group.line, group.count});
+        add_result(held, group.count);
+        for (size_t i = 0; i < members; i++)
+            if (list[i] != listed(i))
+                exit(4);
+        free(list);
+    }
+}
+
 static void ask(const uint8_t *text, size_t length, uint32_t budget) {
     uint16_t *work = room(LEXONDAR_WORK * sizeof *work);
     uint16_t *held = room(LEXONDAR_AUTHORITY * sizeof *held);
@@ -54,6 +78,7 @@ static void ask(const uint8_t *text, size_t length, uint32_t budget) {
         text, length, budget, LEXONDAR_MAIN, work, LEXONDAR_WORK, held, LEXONDAR_AUTHORITY);
     add_fields(3, (uint32_t[]){one.refusal, one.line, one.count});
     add_result(held, one.count);
+    ask_groups(text, length, budget, work, held);
     struct lexondar_report_result every =
         lexondar_report(text, length, budget, work, LEXONDAR_WORK, all, LEXONDAR_REPORT);
     add_fields(7, (uint32_t[]){every.refusal, every.line, every.outcome, every.steps, every.value,

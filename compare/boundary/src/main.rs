@@ -1,12 +1,13 @@
 //! A small program over the library: a sheet on standard input, the answer to
 //! one question on standard output, in the second program's words.
 
-use boundary::{authority, fit, run, verdict, RunResult, AUTHORITY, WORK};
+use boundary::{authority, fit, group, run, verdict, RunResult, AUTHORITY, WORK};
 use std::io::Read;
 use std::process::ExitCode;
 
 const USAGE: &str = "usage: boundary verdict | boundary fit A B | boundary run BUDGET \
-                     | boundary authority BUDGET HOLDER  (a sheet on standard input)";
+                     | boundary authority BUDGET HOLDER | boundary group BUDGET HOLDER..  \
+                     (a sheet on standard input)";
 
 fn main() -> ExitCode {
     let words: Vec<String> = std::env::args().skip(1).collect();
@@ -28,7 +29,6 @@ fn main() -> ExitCode {
 
 fn answer(words: &[&str], text: &[u8]) -> Option<String> {
     let mut work = vec![0; WORK];
-    let refused = |number: u32, line: u32| format!("verdict={number}\nline={line}\n");
     match words {
         ["verdict"] => {
             let given = verdict(text, &mut work);
@@ -48,17 +48,38 @@ fn answer(words: &[&str], text: &[u8]) -> Option<String> {
                 number => refused(number, given.line),
             })
         }
+        _ => held(words, text, &mut work),
+    }
+}
+
+/// What a holder holds, or a list of them.
+fn held(words: &[&str], text: &[u8], work: &mut [u16]) -> Option<String> {
+    let mut result = [0; AUTHORITY];
+    match words {
         ["authority", budget, holder] => {
             let (budget, holder) = (budget.parse().ok()?, holder.parse().ok()?);
-            let mut result = [0; AUTHORITY];
-            let given = authority(text, budget, holder, &mut work, &mut result);
+            let given = authority(text, budget, holder, work, &mut result);
             Some(match given.refusal {
                 0 => holder_line(holder, &result[..given.count as usize]),
                 number => refused(number, given.line),
             })
         }
+        ["group", budget, holders @ ..] => {
+            let budget = budget.parse().ok()?;
+            let holders = holders.iter().map(|holder| holder.parse().ok());
+            let holders = holders.collect::<Option<Vec<u16>>>()?;
+            let given = group(text, budget, &holders, work, &mut result);
+            Some(match given.refusal {
+                0 => second::group_line(&result[..given.count as usize]),
+                number => refused(number, given.line),
+            })
+        }
         _ => None,
     }
+}
+
+fn refused(number: u32, line: u32) -> String {
+    format!("verdict={number}\nline={line}\n")
 }
 
 /// A holder and its authority; the bare holder where that is empty.

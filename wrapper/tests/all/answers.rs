@@ -1,9 +1,10 @@
 //! The wrapper on the paper's sheet, and on the example of each refusal.
 
-use lexondar::{authority, fits, report, run, verdict};
+use lexondar::{authority, fits, group, report, run, verdict};
 use lexondar::{Held, Holders, Outcome, Reason, Refusal, Run, Work, MAIN};
 
 const CLERK: &[u8] = include_bytes!("../../../examples/clerk.sheet");
+const MAKERS: &[u8] = include_bytes!("../../../examples/makers.sheet");
 
 #[test]
 fn the_clerk_is_accepted_and_runs() {
@@ -38,6 +39,22 @@ fn each_holder_of_the_clerk_holds_what_the_paper_says() {
     assert_eq!(answer.steps, 8);
     let all: Vec<(usize, &[u16])> = holders.map(|(holder, set)| (holder.into(), set)).collect();
     assert_eq!(all, sets);
+}
+
+#[test]
+fn two_makers_hold_together_what_either_holds() {
+    let (mut work, mut held) = (Work::new(), Held::new());
+    let mut joined = |list: &[u16]| {
+        let given = group(MAKERS, 100, list, &mut work, &mut held);
+        given.map(<[u16]>::to_vec)
+    };
+    assert_eq!(joined(&[2, 3]), Ok(vec![1, 2, 3, 4, 5]));
+    assert_eq!(joined(&[3, 2, 3]), Ok(vec![1, 2, 3, 4, 5]));
+    assert_eq!(joined(&[]), Ok(vec![]));
+    for list in [&[2, 0][..], &[2; 17]] {
+        let refusal = joined(list).expect_err("no group");
+        assert_eq!((refusal.reason, refusal.line), (Reason::NoHolder, 0));
+    }
 }
 
 fn refused(reason: Reason, line: u32) -> Result<(), Refusal> {
@@ -77,6 +94,7 @@ fn a_number_that_is_no_holder_is_refused_after_the_run() {
         let refusal = given.expect_err("no holder");
         assert_eq!((refusal.reason, refusal.line), (Reason::NoHolder, 0));
         assert_eq!(refusal.reason.number(), 11);
-        assert_eq!(refusal.to_string(), "refusal 11: there is no such holder");
+        let words = "refusal 11: there is no such holder, or over 16 are listed";
+        assert_eq!(refusal.to_string(), words);
     }
 }

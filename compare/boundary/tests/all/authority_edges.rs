@@ -1,39 +1,18 @@
 //! The authority question at the edges of its buffers and of the store, with
 //! the sets that the paper gives.
 
-use crate::common::{is_left_clean, is_written, lines, noise, CLERK, LOOP};
-use boundary::{authority, AuthorityResult, AUTHORITY, WORK};
+use crate::common::{lines, CLERK, LOOP};
+use crate::held;
+use boundary::{authority, AUTHORITY, WORK};
 
 const MAIN: usize = 256;
 
-/// Asks with buffers of the sizes named, and gives the answer with the
-/// buffers at entry and at return.
-fn ask(
-    (text, budget, holder): (&[u8], u32, usize),
-    (work_length, result_length): (usize, usize),
-) -> (AuthorityResult, [Vec<u16>; 2], [Vec<u16>; 2]) {
-    let entry = [noise(21, work_length), noise(22, result_length)];
-    let [mut work, mut result] = entry.clone();
-    let answer = authority(text, budget, holder, &mut work, &mut result);
-    (answer, entry, [work, result])
-}
-
-/// The answer is this refusal and line, or zeros and these numbers, in
-/// buffers of exactly the size and in longer ones.
-fn check(text: &[u8], budget: u32, holder: usize, (refusal, line): (u32, u32), held: &[u16]) {
+/// The answer is this refusal and line, or zeros and these numbers.
+fn check(text: &[u8], budget: u32, holder: usize, refused: (u32, u32), numbers: &[u16]) {
     let name = format!("budget {budget}, holder {holder}");
-    let count = held.len() as u32;
-    let wanted = AuthorityResult {
-        refusal,
-        line,
-        count,
-    };
-    for sizes in [(WORK, AUTHORITY), (WORK + 5, AUTHORITY + 9)] {
-        let (answer, entry, exit) = ask((text, budget, holder), sizes);
-        assert_eq!(answer, wanted, "{name}");
-        is_left_clean(&exit[0], &entry[0], &name);
-        is_written(&exit[1], &entry[1], held, &name);
-    }
+    held::check(&name, refused, numbers, |work, result| {
+        authority(text, budget, holder, work, result)
+    });
 }
 
 fn holds(text: &[u8], budget: u32, holder: usize, held: &[u16]) {
@@ -58,17 +37,12 @@ fn a_short_buffer_is_refused_first_and_both_are_left_as_they_were() {
         (0, AUTHORITY),
         (0, 0),
     ];
-    let refused = AuthorityResult {
-        refusal: 1,
-        line: 0,
-        count: 0,
-    };
-    for sizes in short {
+    for lengths in short {
         for text in [&b""[..], &long[..], CLERK] {
             for holder in [MAIN, 0, 1, 257] {
-                let (answer, entry, exit) = ask((text, 8, holder), sizes);
-                assert_eq!(answer, refused, "{sizes:?}");
-                assert!(entry == exit, "{sizes:?}");
+                held::is_short(lengths, |work, result| {
+                    authority(text, 8, holder, work, result)
+                });
             }
         }
     }

@@ -9,6 +9,9 @@ pub const CLERK: &[u8] = include_bytes!("../../../../examples/clerk.sheet");
 /// L, a method that calls itself for ever.
 pub const LOOP: &[u8] = include_bytes!("../../../../examples/stack-full.sheet");
 
+/// Two makers that keep the same valve, each with a device of its own.
+pub const MAKERS: &[u8] = include_bytes!("../../../../examples/makers.sheet");
+
 /// A sheet that does not end in this number of steps is taken for endless.
 const LONG: u32 = 20_000;
 

@@ -5,6 +5,8 @@ mod authority_edges;
 mod common;
 mod documents;
 mod fit;
+mod group_edges;
+mod held;
 mod linked;
 mod memory;
 mod printed;

@@ -2,7 +2,7 @@
 //! gets, and a memory checker sees no step outside a buffer and no answer that
 //! rests on what was never written.
 
-use boundary::{authority, fit, report, run, verdict, AUTHORITY, REPORT, WORK};
+use boundary::{authority, fit, group, report, run, verdict, AUTHORITY, GROUP, REPORT, WORK};
 use std::path::{Path, PathBuf};
 use std::process::Command;
 
@@ -60,6 +60,18 @@ impl Sum {
         result.iter().for_each(|number| self.add((*number).into()));
     }
 
+    /// What `ask_groups` adds: main and the first objects, one member more
+    /// each time.
+    fn add_groups(&mut self, (text, budget): (&[u8], u32), work: &mut [u16], held: &mut [u16]) {
+        let numbers = (0..=GROUP as u16).map(|i| if i % 2 == 0 { 256 } else { i / 2 });
+        let list: Vec<u16> = numbers.collect();
+        for members in 0..=list.len() {
+            let g = group(text, budget, &list[..members], work, held);
+            self.add_fields(&[g.refusal, g.line, g.count]);
+            self.add_result(&held[..g.count as usize]);
+        }
+    }
+
     /// What `judge` and `ask` add, in their order.
     fn add_sheet(&mut self, text: &[u8]) {
         let (mut work, mut held, mut all) = (vec![7; WORK], vec![7; AUTHORITY], vec![7; REPORT]);
@@ -73,6 +85,7 @@ impl Sum {
             let g = authority(text, budget, 256, &mut work, &mut held);
             self.add_fields(&[g.refusal, g.line, g.count]);
             self.add_result(&held[..g.count as usize]);
+            self.add_groups((text, budget), &mut work, &mut held);
             let g = report(text, budget, &mut work, &mut all);
             self.add_fields(&[g.refusal, g.line, g.outcome, g.steps, g.value]);
             self.add_fields(&[g.objects, g.count]);

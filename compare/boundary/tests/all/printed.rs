@@ -151,8 +151,8 @@ fn every_example_prints_its_stored_lines() {
             seen.compare(&text, &name);
         }
     }
-    assert_eq!(seen.outcomes, [1; 4]);
-    assert_eq!(seen.verdicts, [4, 0, 0, 1, 1, 1, 1, 1, 1, 1, 1, 0]);
+    assert_eq!(seen.outcomes, [2, 1, 1, 1]);
+    assert_eq!(seen.verdicts, [5, 0, 0, 1, 1, 1, 1, 1, 1, 1, 1, 0]);
 }
 
 #[test]

@@ -1,6 +1,6 @@
 //! The small program over the library, on sheets of the paper.
 
-use crate::common::CLERK;
+use crate::common::{CLERK, MAKERS};
 use std::io::Write;
 use std::process::{Command, Stdio};
 
@@ -92,4 +92,26 @@ fn the_clerk_s_holders() {
         "verdict=3\nline=20\n"
     );
     assert_eq!(run(&["authority", "8", "-1"], CLERK), "");
+}
+
+#[test]
+fn groups_of_the_two_makers() {
+    let cases: [(&[&str], &str); 6] = [
+        (&["2", "3"], "group=1,2,3,4,5\n"),
+        (&["3", "2", "3"], "group=1,2,3,4,5\n"),
+        (&["256"], "group=1,2,3\n"),
+        (&[], "group\n"),
+        (&["2", "0"], "verdict=11\nline=0\n"),
+        (&["257"], "verdict=11\nline=0\n"),
+    ];
+    for (holders, line) in cases {
+        let words = [&["group", "100"][..], holders].concat();
+        assert_eq!(run(&words, MAKERS), line, "{holders:?}");
+    }
+    let words = [&["group", "100"][..], &["2"; 17]].concat();
+    assert_eq!(run(&words[..18], MAKERS), "group=1,2,4\n");
+    assert_eq!(run(&words, MAKERS), "verdict=11\nline=0\n");
+    for holder in ["-1", "65536", "all"] {
+        assert_eq!(run(&["group", "100", holder], MAKERS), "", "{holder}");
+    }
 }

@@ -1,9 +1,9 @@
-//! All five questions against the second program on the same sheets, with
+//! All six questions against the second program on the same sheets, with
 //! buffers that are one number too short, exactly as long as asked, or longer.
 
 use crate::common::{budget_for, draw, is_left_clean, is_written, noise};
 use boundary::{
-    authority, entries, fit, report, run, verdict, AuthorityResult, FitResult, ReportResult,
+    authority, entries, fit, group, report, run, verdict, AuthorityResult, FitResult, ReportResult,
     RunResult, VerdictResult, AUTHORITY, REPORT, WORK,
 };
 use second::machine::Machine;
@@ -90,7 +90,7 @@ impl Case<'_> {
         });
     }
 
-    /// Run, authority and report of a text that is refused.
+    /// Run, authority, group and report of a text that is refused.
     fn ask_refused(&self, refusal: Refusal, seen: &mut Lengths) {
         let budget = draw(!self.seed) as u32;
         let (number, line) = (refusal.number(), refusal.line);
@@ -109,10 +109,22 @@ impl Case<'_> {
         self.ask(asked, wanted, report_of(1, 0), seen, |work, result| {
             report(text, budget, work, result)
         });
+        let list = self.list(9);
+        let wanted = (held_of(number, line), &[][..]);
+        let asked = (60, AUTHORITY);
+        self.ask(asked, wanted, held_of(1, 0), seen, |work, result| {
+            group(text, budget, &list, work, result)
+        });
     }
 
-    /// The same three of an accepted sheet.
-    fn ask_accepted(&self, seen: &mut Lengths) {
+    /// A list of 0 to 18 numbers for a state with this many objects.
+    fn list(&self, objects: u16) -> Vec<u16> {
+        let list = generator::group(91, self.seed, objects);
+        list.into_iter().map(|number| number as u16).collect()
+    }
+
+    /// The same four of an accepted sheet; whether its list was answered.
+    fn ask_accepted(&self, seen: &mut Lengths) -> bool {
         let text = self.text;
         let sheet = second::read(text).expect("an accepted sheet");
         let budget = budget_for(&sheet, self.seed);
@@ -142,6 +154,21 @@ impl Case<'_> {
         self.ask(asked, (wanted, &numbers), short, seen, |work, result| {
             report(text, budget, work, result)
         });
+        self.ask_list((budget, ran.objects), seen)
+    }
+
+    /// What a list of holders holds; whether it was answered.
+    fn ask_list(&self, (budget, objects): (u32, u16), seen: &mut Lengths) -> bool {
+        let list = self.list(objects);
+        let wide: Vec<u32> = list.iter().map(|number| (*number).into()).collect();
+        let held = second::group(self.text, budget, &wide);
+        let numbers = held.clone().unwrap_or_default();
+        let (asked, short) = ((60, AUTHORITY), held_of(1, 0));
+        let wanted = held_like(&held);
+        self.ask(asked, (wanted, &numbers), short, seen, |work, result| {
+            group(self.text, budget, &list, work, result)
+        });
+        held.is_ok()
     }
 
     /// The authority of some number, which may be no holder.
@@ -149,11 +176,7 @@ impl Case<'_> {
         let holder = (draw(self.seed ^ 103) % 261) as u32;
         let held = second::authority(self.text, budget, holder);
         let numbers = held.clone().unwrap_or_default();
-        let wanted = AuthorityResult {
-            refusal: held.as_ref().err().map_or(0, |refusal| refusal.number()),
-            line: 0,
-            count: numbers.len() as u32,
-        };
+        let wanted = held_like(&held);
         let (asked, short) = ((40, AUTHORITY), held_of(1, 0));
         self.ask(asked, (wanted, &numbers), short, seen, |work, result| {
             authority(self.text, budget, holder as usize, work, result)
@@ -180,6 +203,17 @@ fn held_of(refusal: u32, line: u32) -> AuthorityResult {
     }
 }
 
+/// The answer to an accepted sheet: how much is held, or no holder.
+fn held_like(held: &Result<Vec<u16>, Refusal>) -> AuthorityResult {
+    match held {
+        Ok(numbers) => AuthorityResult {
+            count: numbers.len() as u32,
+            ..held_of(0, 0)
+        },
+        Err(refusal) => held_of(refusal.number(), 0),
+    }
+}
+
 fn report_of(refusal: u32, line: u32) -> ReportResult {
     ReportResult {
         refusal,
@@ -192,9 +226,10 @@ fn report_of(refusal: u32, line: u32) -> ReportResult {
     }
 }
 
-/// Every second sheet from one on; how many were accepted, and the lengths.
-fn compare_half(first: u64, count: u64, noise: &[u16]) -> (u32, Lengths) {
-    let (mut accepted, mut seen) = (0, [0; 3]);
+/// Every second sheet from one on; how many were accepted, how many lists
+/// were answered, and the lengths.
+fn compare_half(first: u64, count: u64, noise: &[u16]) -> ([u32; 2], Lengths) {
+    let (mut accepted, mut seen) = ([0; 2], [0; 3]);
     for seed in (first..count).step_by(2) {
         let text = generator::sheet(91, seed);
         let text = &text[..];
@@ -203,8 +238,8 @@ fn compare_half(first: u64, count: u64, noise: &[u16]) -> (u32, Lengths) {
         case.ask_verdict(&mut seen);
         match second::verdict(text) {
             Ok(()) => {
-                accepted += 1;
-                case.ask_accepted(&mut seen);
+                accepted[0] += 1;
+                accepted[1] += u32::from(case.ask_accepted(&mut seen));
             }
             Err(refusal) => case.ask_refused(refusal, &mut seen),
         }
@@ -220,8 +255,10 @@ fn every_question_agrees_on_50000_sheets() {
         let even = compare_half(0, 50_000, &numbers);
         (even, odd.join().expect("the odd ones agree"))
     });
-    let accepted = even.0 + odd.0;
+    let [accepted, lists] = [0, 1].map(|kind| even.0[kind] + odd.0[kind]);
     assert!(accepted > 15_000, "{accepted} accepted");
+    assert!(lists > 5_000, "{lists} lists answered");
+    assert!(accepted - lists > 5_000, "{lists} lists of {accepted}");
     for (kind, (a, b)) in even.1.iter().zip(odd.1).enumerate() {
         assert!(a + b > 30_000, "length {kind} met {} times", a + b);
     }

@@ -1,0 +1,54 @@
+//! What is looked at when a holder, or a list of them, is asked for.
+
+use crate::common::{is_left_clean, is_written, noise};
+use boundary::{AuthorityResult, AUTHORITY, WORK};
+
+/// The work buffer and the result buffer.
+type Buffers = [Vec<u16>; 2];
+
+/// Asks with buffers of these lengths: the answer, and the buffers at entry
+/// and at return.
+pub fn ask(
+    lengths: (usize, usize),
+    call: impl Fn(&mut [u16], &mut [u16]) -> AuthorityResult,
+) -> (AuthorityResult, Buffers, Buffers) {
+    let entry = [noise(21, lengths.0), noise(22, lengths.1)];
+    let [mut work, mut result] = entry.clone();
+    let answer = call(&mut work, &mut result);
+    (answer, entry, [work, result])
+}
+
+/// The answer is this refusal and line, or zeros and these numbers, in
+/// buffers of exactly the size and in longer ones.
+pub fn check(
+    name: &str,
+    (refusal, line): (u32, u32),
+    held: &[u16],
+    call: impl Fn(&mut [u16], &mut [u16]) -> AuthorityResult,
+) {
+    let count = held.len() as u32;
+    let wanted = AuthorityResult {
+        refusal,
+        line,
+        count,
+    };
+    for lengths in [(WORK, AUTHORITY), (WORK + 5, AUTHORITY + 9)] {
+        let (answer, entry, exit) = ask(lengths, &call);
+        assert_eq!(answer, wanted, "{name}");
+        is_left_clean(&exit[0], &entry[0], name);
+        is_written(&exit[1], &entry[1], held, name);
+    }
+}
+
+/// In buffers of these lengths, of which one is too short, the answer is 1 at
+/// line 0, and both are left as they were.
+pub fn is_short(lengths: (usize, usize), call: impl Fn(&mut [u16], &mut [u16]) -> AuthorityResult) {
+    let (answer, entry, exit) = ask(lengths, call);
+    let refused = AuthorityResult {
+        refusal: 1,
+        line: 0,
+        count: 0,
+    };
+    assert_eq!(answer, refused, "{lengths:?}");
+    assert!(entry == exit, "{lengths:?}");
+}
