@@ -27,7 +27,7 @@ use Rattle.machine_steps.specs.Running.{Running}
 use Rattle.machine_steps.proofs.FacingLaws.{objects-few}
 use Rattle.lists.specs.PutAt.{begun, putAt}
 use Rattle.lists.proofs.PutAtLaws.{put-put}
-use Rattle.authority.specs.Group.{heldState, GroupWritten}
+use Rattle.authority.specs.Members.{heldState, GroupWritten}
 use Rattle.authority.specs.Every.{entryOf, entries, everySize, EntriesWritten, ifResource, EveryWritten}
 use Rattle.authority.proofs.BelowLaws.{marks-sheet}
 use Rattle.authority.proofs.MarkedRunLaws.{marks-state, marks-running}

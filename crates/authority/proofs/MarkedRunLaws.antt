@@ -15,7 +15,7 @@ use Rattle.machine_state.proofs.HeldLaws.{frame-same, below-same}
 use Rattle.machine_steps.specs.Running.{Running}
 use Rattle.machine_steps.proofs.FacingLaws.{frames-few}
 use Rattle.authority_marks.specs.Marked.{MarksOnly}
-use Rattle.authority.specs.Group.{heldState}
+use Rattle.authority.specs.Members.{heldState}
 use Rattle.authority.proofs.BelowLaws.{marks-sheet, marks-objects}
 
 module _ (w w′ : List ℕ) (o : MarksOnly w w′) (t : Top) (k : Tally) (r : Running w t k) where

@@ -31,7 +31,7 @@ use Rattle.machine_steps.specs.Running.{Running}
 use Rattle.machine_steps.proofs.FacingLaws.{objects-few}
 use Rattle.authority_marks.specs.Marked.{MarksOnly, isMarked, MarksCleared, Added}
 use Rattle.authority.specs.Laid.{Stored, isReached, Written}
-use Rattle.authority.specs.Group.{heldState, someReaches, MembersMarked, GroupWritten}
+use Rattle.authority.specs.Members.{heldState, someReaches, MembersMarked, GroupWritten}
 use Rattle.authority.proofs.BelowLaws.{marks-sheet, marks-objects, marks-stored}
 use Rattle.authority.proofs.MarkedRunLaws.{marks-state, marks-running}
 use Rattle.authority.proofs.ReachLaws.{run-stored}

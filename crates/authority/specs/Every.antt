@@ -12,7 +12,7 @@ use Rattle.table.specs.View.{sheetIn}
 use Rattle.machine_state.specs.declared.Top.{Top}
 use Rattle.authority_marks.specs.Marked.{MarksOnly}
 use Rattle.lists.specs.PutAt.{putAt}
-use Rattle.authority.specs.Group.{heldState}
+use Rattle.authority.specs.Members.{heldState}
 
 -- a holder's entry: its number, how many it holds, and which
 abbrev pub entryOf : Holding → List ℕ

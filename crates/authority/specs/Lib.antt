@@ -1,3 +1,3 @@
 pub mod Laid
-pub mod Group
+pub mod Members
 pub mod Every

@@ -10,7 +10,7 @@ ghost use Rattle.table.specs.View.{sheetIn};
 ghost use Rattle.machine_state.specs.Held.{objectsIn};
 ghost use Rattle.machine_steps.specs.Running.{Running};
 ghost use Rattle.authority.specs.Laid.{Stored};
-ghost use Rattle.authority.specs.Group.{MembersMarked, GroupWritten};
+ghost use Rattle.authority.specs.Members.{MembersMarked, GroupWritten};
 use crate::collect::write_reached;
 use crate::reach::is_holder;
 use crate::reach::mark_reached;

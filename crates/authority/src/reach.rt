@@ -7,7 +7,7 @@ ghost use Rattle.machine_state.specs.Held.{objectsIn};
 ghost use Rattle.machine_steps.specs.Running.{Running};
 ghost use Rattle.authority_marks.specs.Marked.{Added};
 ghost use Rattle.authority.specs.Laid.{Stored};
-ghost use Rattle.authority.specs.Group.{heldState};
+ghost use Rattle.authority.specs.Members.{heldState};
 use crate::is_resource;
 use crate::mark_below;
 use crate::mark_frame;

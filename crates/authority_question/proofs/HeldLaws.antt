@@ -24,7 +24,7 @@ use Rattle.verdict_question.proofs.OnLaws.{told-refused, told-accepted}
 use Rattle.machine.specs.declared.Halt.{Halt}
 use Rattle.machine.specs.Runs.{haltedState, SheetRun}
 use Rattle.lists.specs.PutAt.{begun}
-use Rattle.authority.specs.Group.{GroupWritten}
+use Rattle.authority.specs.Members.{GroupWritten}
 use Rattle.authority_question.specs.Asked.{heldReply, heldNumbers, HeldTold, HeldAsked, GroupAsked, AuthorityAsked}
 
 module _ {w : List ℕ} {budget : ℕ} {w₁ : List ℕ} {halt : Halt} (s : SheetRun w budget w₁ halt) where

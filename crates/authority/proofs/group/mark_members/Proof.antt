@@ -2,7 +2,7 @@ use Prim.Native.Nat.{_-_}
 use native.Mathlib.Omega.{arith}
 use lib.ListN.{length, take}
 use borrow.Author.Needs.{needs}
-use Rattle.authority.specs.Group.{MembersMarked}
+use Rattle.authority.specs.Members.{MembersMarked}
 use Rattle.authority.proofs.MemberLaws.{members-start, member-asks, member-marked, members-end}
 use Rattle.authority.proofs.group.mark_members.Statement.{statement}
 use Rattle.authority.proofs.group.mark_members.Tie as tie
