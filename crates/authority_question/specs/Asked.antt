@@ -27,12 +27,15 @@ heldNumbers (notHeld r n) = []
 abbrev pub HeldTold : Held → (w result w′ result′ : List ℕ) → AuthorityReply → Type 0
 HeldTold x w result w′ result′ r = Told (heldReply x) (heldNumbers x) w result w′ result′ r
 
+-- the promise for what is held: reply, result buffer and work buffer, in buffers of any length (document 01, Turned away)
 abbrev pub HeldAsked : Held → (w result w′ result′ : List ℕ) → AuthorityReply → Type 0
 HeldAsked x w result w′ result′ r = Asked 256 (heldReply x) (AuthorityReply.Refused BufferTooShort 0) (heldNumbers x) w result w′ result′ r
 
+-- of a list of holders (document 02, order 1)
 abbrev pub GroupAsked : (text : List ℕ) (budget : ℕ) (hs w result w′ result′ : List ℕ) → AuthorityReply → Type 0
 GroupAsked text budget hs w result w′ result′ r = HeldAsked (groupHeld text budget hs) w result w′ result′ r
 
+-- of one holder (document 01, Who holds what)
 abbrev pub AuthorityAsked : (text : List ℕ) (budget h : ℕ) (w result w′ result′ : List ℕ) → AuthorityReply → Type 0
 AuthorityAsked text budget h w result w′ result′ r = HeldAsked (authorityHeld text budget h) w result w′ result′ r
 

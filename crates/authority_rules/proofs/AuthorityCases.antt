@@ -1,12 +1,10 @@
 -- Computed cases of authority: P's sets as the program prints them, a pure receiver's frame, fields and kept values, and the
 -- traps. Assumes nothing.
-use Prim.Native.Nat.{ℕ}
 use Prim.Native.String.{String}
 use mathlib.Core.Path.{_≡_, refl}
 use mathlib.Core.List.{List, [], _∷_, map}
-use Rattle.sheet_rules.specs.Samples.{textOf, P}
-use Rattle.authority_rules.specs.AuthorityQuestion.{authorityHeld}
-use Rattle.authority_rules.specs.Cases.{heldShown}
+use Rattle.sheet_rules.specs.Samples.{P}
+use Rattle.authority_rules.specs.Cases.{Case, heldBy, asked, answer}
 use Rattle.authority_rules.proofs.Opened.{holding}
 
 -- a pure object's method makes a resource, hands it to a keeper that puts it in its field, and gives a pure value back.
@@ -44,36 +42,27 @@ pantry =
     ∷ "call=3,1,2"
     ∷ []
 
-record Case : Type 0 where
-  sheet : List String
-  budget : ℕ
-  holder : ℕ
-  wanted : List ℕ
-
-abbrev holds : List String → ℕ → ℕ → List ℕ → Case
-holds ls budget holder ns = record { sheet = ls; budget = budget; holder = holder; wanted = ns }
-
 abbrev cases : List Case
 cases =
     -- P: main 1 and 2, the scale itself, the clerk itself and the scale that it keeps
-    holds P 8 256 (0 ∷ 0 ∷ 1 ∷ 2 ∷ [])
-    ∷ holds P 8 1 (0 ∷ 0 ∷ 1 ∷ [])
-    ∷ holds P 8 2 (0 ∷ 0 ∷ 1 ∷ 2 ∷ [])
+    asked P (heldBy 8 256) (0 ∷ 0 ∷ 1 ∷ 2 ∷ [])
+    ∷ asked P (heldBy 8 1) (0 ∷ 0 ∷ 1 ∷ [])
+    ∷ asked P (heldBy 8 2) (0 ∷ 0 ∷ 1 ∷ 2 ∷ [])
     -- no object yet, a pure one, a number over 256; main at the start holds nothing
-    ∷ holds P 2 2 (11 ∷ 0 ∷ [])
-    ∷ holds P 8 0 (11 ∷ 0 ∷ [])
-    ∷ holds P 8 257 (11 ∷ 0 ∷ [])
-    ∷ holds P 0 256 (0 ∷ 0 ∷ [])
+    ∷ asked P (heldBy 2 2) (11 ∷ 0 ∷ [])
+    ∷ asked P (heldBy 8 0) (11 ∷ 0 ∷ [])
+    ∷ asked P (heldBy 8 257) (11 ∷ 0 ∷ [])
+    ∷ asked P (heldBy 0 256) (0 ∷ 0 ∷ [])
     -- in the pure maker's frame, which belongs to main, object 4 is main's
-    ∷ holds pantry 6 256 (0 ∷ 0 ∷ 1 ∷ 2 ∷ 4 ∷ [])
+    ∷ asked pantry (heldBy 6 256) (0 ∷ 0 ∷ 1 ∷ 2 ∷ 4 ∷ [])
     -- the keeper, called with 4: it holds itself, its kept value 1 and its argument 4
-    ∷ holds pantry 7 2 (0 ∷ 0 ∷ 1 ∷ 2 ∷ 4 ∷ [])
+    ∷ asked pantry (heldBy 7 2) (0 ∷ 0 ∷ 1 ∷ 2 ∷ 4 ∷ [])
     -- done: the keeper holds 4 by its field, and 1 by its kept value alone; main holds 4 no longer, though its keeper does
-    ∷ holds pantry 100 2 (0 ∷ 0 ∷ 1 ∷ 2 ∷ 4 ∷ [])
-    ∷ holds pantry 100 256 (0 ∷ 0 ∷ 1 ∷ 2 ∷ [])
-    ∷ holds pantry 100 4 (0 ∷ 0 ∷ 4 ∷ [])
+    ∷ asked pantry (heldBy 100 2) (0 ∷ 0 ∷ 1 ∷ 2 ∷ 4 ∷ [])
+    ∷ asked pantry (heldBy 100 256) (0 ∷ 0 ∷ 1 ∷ 2 ∷ [])
+    ∷ asked pantry (heldBy 100 4) (0 ∷ 0 ∷ 4 ∷ [])
     ∷ []
 
-pub all : map (λ c. heldShown (authorityHeld (textOf (c .sheet)) (c .budget) (c .holder))) cases ≡ map (λ c. c .wanted) cases
+pub all : map answer cases ≡ map (λ c. c .wanted) cases
 unfolding holding
 all = refl

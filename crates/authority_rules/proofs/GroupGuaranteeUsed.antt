@@ -1,13 +1,13 @@
 -- What follows from the gain rule for a group, by every word of it: some member gained, who called or returned is outside, what is
--- given is held, and a single holder's rule is that of a group of one. And what is false: that a creation, too, comes from outside.
--- Assumes nothing.
+-- given is held, a group of one has the single holder's rule, and a group at work gains only what it makes. And what is false: that
+-- a creation, too, comes from outside. Assumes nothing.
 use Prim.Native.Nat.{ℕ}
 use mathlib.Core.Path.{_≡_, refl, sym, subst}
 use mathlib.Core.List.{List, [], _∷_}
 use mathlib.Core.Option.{some}
 use lib.Dec.{T}
-use Rattle.lists.specs.In.{In, here, there}
-use Rattle.lists.proofs.InLaws.{in-nil}
+use Rattle.lists.specs.In.{In, here}
+use Rattle.lists.proofs.InLaws.{in-one}
 use Rattle.sheet_rules.specs.declared.Verdict.the-variants.{Accepted}
 use Rattle.sheet_rules.specs.Samples.{textOf, P}
 use Rattle.sheet_rules.specs.Sheet.{Sheet}
@@ -22,6 +22,7 @@ use Rattle.authority_rules.specs.Group.{groupHolds}
 use Rattle.authority_rules.specs.GroupGain.{Member, Outside, GroupGain, byMember, ofMember, keptByMember, onMember, toMember, GroupGuaranteed}
 use Rattle.authority_rules.proofs.GainGives.{gain-gives}
 use Rattle.authority_rules.proofs.Opened.{holding}
+use Rattle.authority_rules.proofs.GuaranteeUsed.{Makes, made-is}
 use Rattle.authority_rules.proofs.GroupGuaranteeHolds.{member-holds, held-member}
 
 module _ {s : Sheet} {σ : State} {hs : List ℕ} {b : ℕ} where
@@ -40,26 +41,36 @@ module _ {s : Sheet} {σ : State} {hs : List ℕ} {b : ℕ} where
   pub returner-outside : {value : ℕ} → GroupGain s σ hs b (returns value) → In (topHolder s σ) hs → ⊥
   returner-outside (toMember r x k q m) = x
 
--- of every accepted text, after every n steps: what a way gives, if it is a resource after the step, the group holds after it
-pub group-gain-gives : (text : List ℕ) (s : Sheet) → meaning text ≡ readable s → verdict text ≡ Accepted → (n : ℕ) (σ : State) → after s n ≡ some σ
-    → (a : Action) (σ′ : State) → nextStep s σ ≡ step a σ′ → (hs : List ℕ) (b : ℕ) → T (isResource s (σ′ .objects) b) → GroupGain s σ hs b a → T (groupHolds s σ′ hs b)
-group-gain-gives text s read accepted n σ reached a σ′ e hs b r g =
-    let f = member-gains g in
-    member-holds s σ′ hs b (f .1) (gain-gives text s read accepted n σ reached a σ′ e (f .0) b r (f .2))
+-- of every accepted text, after every n steps, for every list and every resource
+module _ (text : List ℕ) (s : Sheet) (read : meaning text ≡ readable s) (accepted : verdict text ≡ Accepted) (n : ℕ) (σ : State) (reached : after s n ≡ some σ)
+    (a : Action) (σ′ : State) (e : nextStep s σ ≡ step a σ′) where
+  -- what a way gives, if it is a resource after the step, the group holds after it
+  pub group-gain-gives : (hs : List ℕ) (b : ℕ) → T (isResource s (σ′ .objects) b) → GroupGain s σ hs b a → T (groupHolds s σ′ hs b)
+  group-gain-gives hs b r g =
+      let f = member-gains g in
+      member-holds s σ′ hs b (f .1) (gain-gives text s read accepted n σ reached a σ′ e (f .0) b r (f .2))
 
--- from the group's rule alone, of every accepted text, after every n steps: every single holder's
-pub single-gains : GroupGuaranteed → (text : List ℕ) (s : Sheet) → meaning text ≡ readable s → verdict text ≡ Accepted → (n : ℕ) (σ : State) → after s n ≡ some σ
-    → (a : Action) (σ′ : State) → nextStep s σ ≡ step a σ′ → (h b : ℕ) → T (holds s σ′ h b) → (T (holds s σ h b) → ⊥) → Gain s σ h b a
-single-gains g text s read accepted n σ reached a σ′ e h b now before =
-    let f = member-gains (g text s read accepted n σ reached a σ′ e (h ∷ []) b (member-holds s σ′ (h ∷ []) b (here refl) now) (λ t. before (alone t))) in
-    subst (λ (x : ℕ). Gain s σ x b a) (only (f .1)) (f .2)
-  where
-    only : {x : ℕ} → Member (h ∷ []) x → x ≡ h
-    only (here p) = p
-    only (there i) = absurd (in-nil i)
+  -- from the group's rule alone
+  module _ (g : GroupGuaranteed) where
+    -- a group of one gives the single holder's rule
+    pub single-gains : (h b : ℕ) → T (holds s σ′ h b) → (T (holds s σ h b) → ⊥) → Gain s σ h b a
+    single-gains h b now before =
+        let f = member-gains (g text s read accepted n σ reached a σ′ e (h ∷ []) b (member-holds s σ′ (h ∷ []) b (here refl) now) (λ t. before (alone t))) in
+        subst (λ (x : ℕ). Gain s σ x b a) (in-one (f .1)) (f .2)
+      where
+        alone : T (groupHolds s σ (h ∷ []) b) → T (holds s σ h b)
+        alone t = let m = held-member s σ (h ∷ []) b t in subst (λ (x : ℕ). T (holds s σ x b)) (in-one (m .1)) (m .2)
 
-    alone : T (groupHolds s σ (h ∷ []) b) → T (holds s σ h b)
-    alone t = let m = held-member s σ (h ∷ []) b t in subst (λ (x : ℕ). T (holds s σ x b)) (only (m .1)) (m .2)
+    -- while a member's code runs, a group of any size gains nothing but what the step makes
+    pub member-at-work : (hs : List ℕ) → In (topHolder s σ) hs → (b : ℕ) → T (groupHolds s σ′ hs b) → (T (groupHolds s σ hs b) → ⊥) → Makes b a
+    member-at-work hs inside b now before = go (g text s read accepted n σ reached a σ′ e hs b now before)
+      where
+        go : {a : Action} → GroupGain s σ hs b a → Makes b a
+        go (byMember m k) = made-is k
+        go (ofMember m k) = made-is k
+        go (keptByMember m k q) = absurd (before (member-holds s σ hs b inside q))
+        go (onMember r m k x q) = absurd (x inside)
+        go (toMember r x k q m) = absurd (x inside)
 
 -- WHAT IS FALSE
 

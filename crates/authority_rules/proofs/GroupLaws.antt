@@ -3,7 +3,7 @@
 use Prim.Native.Nat.{ℕ, _≤_, _<_, min}
 use native.Mathlib.Omega.{arith}
 use native.Mathlib.Decide.{decLe}
-use mathlib.Core.Path.{_≡_, refl, sym, ap, _∙_}
+use mathlib.Core.Path.{_≡_, sym, ap, _∙_}
 use mathlib.Core.Bool.{Bool, false, cond, _&&_, _||_, or-false, and-true}
 use mathlib.Core.List.{List, [], _∷_}
 use lib.ListN.{length}
@@ -16,13 +16,13 @@ use Rattle.lists.proofs.AnyAllLaws.{any-in, any-same, all-same}
 use Rattle.lists.proofs.PassingLaws.{Ascending, passing-ascending, passing-exactly, passing-same, passing-none}
 use Rattle.lists.proofs.Tests.{T-ext}
 use Rattle.sheet_rules.specs.declared.Reason.the-variants.{NoHolder}
-use Rattle.sheet_rules.specs.declared.Verdict.{Verdict}
-use Rattle.sheet_rules.specs.declared.Verdict.the-variants.{Accepted, Refused}
+use Rattle.sheet_rules.specs.declared.Verdict.the-variants.{Accepted}
 use Rattle.sheet_rules.specs.Limits.{storeLimit}
 use Rattle.sheet_rules.specs.Sheet.{Sheet}
-use Rattle.sheet_rules.specs.Reading.{Meaning, readable, unreadable, meaning}
-use Rattle.type_rules.specs.Typing.{typing, ifAccepted, verdictOn, acceptedOn, verdict}
+use Rattle.sheet_rules.specs.Reading.{readable, meaning}
+use Rattle.type_rules.specs.Typing.{typing, verdictOn, acceptedOn, verdict}
 use Rattle.type_rules.proofs.TypedLaws.{accepted-sheet}
+use Rattle.type_rules.proofs.TypingLaws.{same-on}
 use Rattle.machine_rules.specs.State.{Object, State}
 use Rattle.machine_rules.specs.Steps.{run}
 use Rattle.machine_rules.proofs.StepsLaws.{run-ends}
@@ -95,21 +95,15 @@ over-not-holder s os h few l =
 -- the authority question answers alike for all numbers over 256
 over-held : (text : List ℕ) (budget g h : ℕ) → mainHolder < g → mainHolder < h → authorityHeld text budget g ≡ authorityHeld text budget h
 unfolding authorityHeld verdict
-over-held text budget g h lg lh = go (meaning text) refl
+over-held text budget g h lg lh =
+    same-on typing notHeld (λ s. heldIn s ((run s budget) .last) g) (meaning text) (λ s. heldIn s ((run s budget) .last) h)
+    (λ s e v. refused s e v g lg ∙ sym (refused s e v h lh))
   where
-    refused : (s : Sheet) → length ((run s budget) .last .objects) ≤ storeLimit → (x : ℕ) → mainHolder < x → heldIn s ((run s budget) .last) x ≡ notHeld NoHolder 0
-    refused s few x l = ap (λ (b : Bool). cond b (held (authority s ((run s budget) .last) x)) (notHeld NoHolder 0)) (over-not-holder s ((run s budget) .last .objects) x few l)
-
-    judged : (s : Sheet) → meaning text ≡ readable s → (v : Verdict) → typing s ≡ v → ifAccepted notHeld (heldIn s ((run s budget) .last) g) v ≡ ifAccepted notHeld (heldIn s ((run s budget) .last) h) v
-    judged s e (Refused r n) p = refl
-    judged s e Accepted p =
-        let w = accepted-sheet text s e (ap (verdictOn typing) e ∙ p) in
+    refused : (s : Sheet) → meaning text ≡ readable s → verdictOn typing (meaning text) ≡ Accepted → (x : ℕ) → mainHolder < x → heldIn s ((run s budget) .last) x ≡ notHeld NoHolder 0
+    refused s e v x l =
+        let w = accepted-sheet text s e v in
         let c = after-sound s (w .0) (w .1) ((run s budget) .steps) ((run s budget) .last) ((run-ends s budget) .reached) in
-        refused s (c .places) g lg ∙ sym (refused s (c .places) h lh)
-
-    go : (m : Meaning) → meaning text ≡ m → acceptedOn typing notHeld (λ s. heldIn s ((run s budget) .last) g) m ≡ acceptedOn typing notHeld (λ s. heldIn s ((run s budget) .last) h) m
-    go (unreadable r n) e = refl
-    go (readable s) e = judged s e (typing s) refl
+        ap (λ (b : Bool). cond b (held (authority s ((run s budget) .last) x)) (notHeld NoHolder 0)) (over-not-holder s ((run s budget) .last .objects) x (c .places) l)
 
 -- so the authority question about h is the question about a list of one number that is at most 257
 pub listed-held : (text : List ℕ) (budget h : ℕ) → groupHeld text budget (min h 257 ∷ []) ≡ authorityHeld text budget h

@@ -38,7 +38,7 @@ pub record Returned (s : Sheet) (σ : State) (h b value : ℕ) : Type 0 where
   pub resource : T (isResource s (σ .objects) (topHolder s σ))
   pub another : topHolder s σ ≢ h
 
-made-is : {b c : ℕ} {kept : List ℕ} → b ≡ c → Makes b (creates c kept)
+pub made-is : {b c : ℕ} {kept : List ℕ} → b ≡ c → Makes b (creates c kept)
 made-is {b} {c} {kept} e = subst (λ (x : ℕ). Makes b (creates x kept)) e makes
 
 module _ {s : Sheet} {σ : State} {h b : ℕ} where

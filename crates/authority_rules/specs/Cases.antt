@@ -9,12 +9,14 @@ use Rattle.type_rules.specs.Typing.{verdict}
 use Rattle.machine_rules.specs.declared.RunReply.{RunReply}
 use Rattle.machine_rules.specs.Steps.{runReply, outcomeNumber}
 use Rattle.authority_rules.specs.AuthorityQuestion.{Held, held, notHeld, authorityHeld}
+use Rattle.authority_rules.specs.Group.{groupHeld}
 
--- a question about a text (One sheet in full)
+-- a question about a text (One sheet in full; document 02, order 1)
 pub data Question : Type 0 where
   judged : Question
   runWithin : ℕ → Question
   heldBy : (budget holder : ℕ) → Question
+  heldTogether : (budget : ℕ) (holders : List ℕ) → Question
 
 -- what is printed of an answer: the refusal's number and line, or 0, 0 and the run's outcome and steps, or the authority
 -- (One sheet in full)
@@ -32,6 +34,7 @@ abbrev pub numbers : Question → List ℕ → List ℕ
 numbers judged text = verdictNumber (verdict text) ∷ verdictLine (verdict text) ∷ []
 numbers (runWithin budget) text = runShown (runReply text budget)
 numbers (heldBy budget holder) text = heldShown (authorityHeld text budget holder)
+numbers (heldTogether budget hs) text = heldShown (groupHeld text budget hs)
 
 -- a case: the lines of a sheet, a question, and the numbers that the paper gives for its answer (One sheet in full)
 pub record Case : Type 0 where

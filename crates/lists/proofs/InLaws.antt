@@ -28,14 +28,18 @@ module _ {A : Type 0} where
   pub in-nil : {x : A} → In x [] → ⊥
   in-nil i = elim i [ ]
 
+  -- an element of a list of one is that one
+  pub in-one : {x y : A} → In x (y ∷ []) → x ≡ y
+  in-one (here e) = e
+  in-one (there i) = absurd (in-nil i)
+
   -- an element of a list with one at its end is that one or one of the others
   pub in-snoc : {x y : A} (xs : List A) → In x (xs ++ (y ∷ [])) → In x xs ⊎ (x ≡ y)
   in-snoc {x} {y} xs i = go (in-cases xs (y ∷ []) i)
     where
       go : In x xs ⊎ In x (y ∷ []) → In x xs ⊎ (x ≡ y)
       go (inl j) = inl j
-      go (inr (here e)) = inr e
-      go (inr (there j)) = absurd (in-nil j)
+      go (inr j) = inr (in-one j)
 
   -- what stands at a place of a list is an element of it
   pub in-getD : (xs : List A) (i : ℕ) (d : A) → i < length xs → In (getD xs i d) xs

@@ -236,3 +236,15 @@ module _ {A : Type 0} (judge : Sheet → Verdict) (refused : Reason → ℕ → 
   -- one that it accepts goes on with its sheet
   pub accepted-on : (s : Sheet) → m ≡ readable s → verdictOn judge m ≡ Accepted → acceptedOn judge refused answer m ≡ answer s
   accepted-on s e v = ap (acceptedOn judge refused answer) e ∙ ap (ifAccepted refused (answer s)) (ap (verdictOn judge) (sym e) ∙ v)
+
+  -- two answers that agree on every sheet that it accepts are the same on the text
+  pub same-on : (other : Sheet → A) → ((s : Sheet) → m ≡ readable s → verdictOn judge m ≡ Accepted → answer s ≡ other s) → acceptedOn judge refused answer m ≡ acceptedOn judge refused other m
+  same-on other same = go m refl
+    where
+      judged : (s : Sheet) → m ≡ readable s → (v : Verdict) → judge s ≡ v → ifAccepted refused (answer s) v ≡ ifAccepted refused (other s) v
+      judged s e Accepted p = same s e (ap (verdictOn judge) e ∙ p)
+      judged s e (Refused q l) p = refl
+
+      go : (x : Meaning) → m ≡ x → acceptedOn judge refused answer x ≡ acceptedOn judge refused other x
+      go (readable s) e = judged s e (judge s) refl
+      go (unreadable q l) e = refl

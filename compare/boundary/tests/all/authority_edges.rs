@@ -164,7 +164,7 @@ fn fields_are_counted() {
 }
 
 /// A maker of this row, object 0, that makes 31 resources and calls itself.
-fn maker(row: u16) -> Vec<u8> {
+pub fn maker(row: u16) -> Vec<u8> {
     let rows = "types=4\ntype=0,0\ntype=1,0\ntype=0,1\ndef=0,0,0\ntype=1,1\ndef=0,1,1\n";
     let body = "new=0\n".repeat(31) + "call=0,0,1\n";
     let form = format!("forms=2\nform=1,0\nform={row},0\nbody=32\n{body}");

@@ -1,6 +1,7 @@
 //! The question about a list of holders at the edges of its buffers, of the
 //! list and of the store.
 
+use crate::authority_edges::maker;
 use crate::common::{CLERK, MAKERS};
 use crate::held;
 use boundary::{group, AUTHORITY, GROUP, WORK};
@@ -102,13 +103,10 @@ fn one_number_that_is_no_holder_is_enough() {
     }
 }
 
-/// Object 0 makes 31 resources and calls itself, until the store is full.
+/// Object 0 makes resources until the store is full.
 #[test]
 fn sixteen_holders_in_a_full_store() {
-    let rows = "types=2\ntype=1,0\ntype=1,1\ndef=0,0,0\n";
-    let body = "new=0\n".repeat(31) + "call=0,0,1\n";
-    let form = format!("forms=2\nform=0,0\nform=1,0\nbody=32\n{body}");
-    let text = format!("{rows}{form}main=2\nnew=1\ncall=0,0,0\n").into_bytes();
+    let text = maker(3);
     let last: Vec<u16> = (240..256).collect();
     holds(&text, u32::MAX, &last, &last);
     let every: Vec<u16> = (0..256).collect();

@@ -8,7 +8,7 @@ type Buffers = [Vec<u16>; 2];
 
 /// Asks with buffers of these lengths: the answer, and the buffers at entry
 /// and at return.
-pub fn ask(
+fn ask(
     lengths: (usize, usize),
     call: impl Fn(&mut [u16], &mut [u16]) -> AuthorityResult,
 ) -> (AuthorityResult, Buffers, Buffers) {
