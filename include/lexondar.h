@@ -1,7 +1,7 @@
 /*
  * Lexondar: which add-in of a dough-room terminal may touch what.
  *
- * Six questions about a sheet. Each takes the sheet's bytes and a work
+ * Seven questions about a sheet. Each takes the sheet's bytes and a work
  * buffer, keeps neither, allocates nothing, and ends. All that is said here
  * of answers and buffers is proved, for every text, every number and every
  * buffer. Link with liblexondar.a (x86-64, System V ABI), which needs nothing
@@ -161,6 +161,23 @@ struct lexondar_report_result {
 struct lexondar_report_result lexondar_report(const uint8_t *text, size_t text_len,
                                               uint32_t budget, uint16_t *work, size_t work_len,
                                               uint16_t *result, size_t result_len);
+
+/*
+ * The lines of a form, as they stand in the text: length bytes of it, start
+ * bytes after its first, from the form's `form` line to the byte 10 of the last
+ * line before the next form or `main`. Forms count from 0. The sheet only has
+ * to be readable; a form that is not in it is refusal 7, line 0, after reading.
+ * Refusals 1 to 7; start and length are 0 then.
+ */
+struct lexondar_form_result {
+    uint32_t refusal;
+    uint32_t line;
+    size_t start;
+    size_t length;
+};
+
+struct lexondar_form_result lexondar_form(const uint8_t *text, size_t text_len, size_t form,
+                                          uint16_t *work, size_t work_len);
 
 #ifdef __cplusplus
 }

@@ -6,6 +6,7 @@ mod answer;
 mod calls;
 mod counts;
 mod fits;
+mod forms;
 mod holders;
 mod lua;
 mod pairs;
@@ -30,6 +31,7 @@ fn main() {
         return;
     }
     calls::table();
+    forms::table();
     fits::table();
     holders::table();
     agree::check();

@@ -23,19 +23,22 @@ const PROGRAMS: [(Program, &str); 4] = [
     (Program::Threaded, "threaded"),
 ];
 
-/// Fit is asked of two rows, a run and a report have a budget, a group has one
-/// too and its number of members: main, and then the objects from 0 on.
+/// Fit is asked of two rows, the lines of one form, a run and a report have a
+/// budget, a group has one too and its number of members: main, and then the
+/// objects from 0 on.
 #[derive(Clone, Copy, Debug)]
 pub enum Question {
     Verdict,
     Fit(u32, u32),
+    Form(u32),
     Run(u32),
     Report(u32),
     Group(u32, u32),
 }
 
 /// A refusal's number and line, or 0; then 1 for yes, or the outcome, steps,
-/// value and number of objects; and how many numbers a report or a group has.
+/// value and number of objects; and how many numbers a report or a group has,
+/// or bytes a form's lines.
 pub type Answer = [u32; 7];
 
 /// A question that is ready to be asked again and again.
@@ -76,6 +79,7 @@ impl Question {
         let (word, a, b) = match self {
             Question::Verdict => ("verdict", 0, 0),
             Question::Fit(a, b) => ("fit", a, b),
+            Question::Form(form) => ("form", form, 0),
             Question::Run(budget) => ("run", budget, 0),
             Question::Report(budget) => ("report", budget, 0),
             Question::Group(budget, members) => ("group", budget, members),
@@ -88,6 +92,7 @@ impl Question {
         match words[0] {
             "verdict" => Some(Question::Verdict),
             "fit" => Some(Question::Fit(a, b)),
+            "form" => Some(Question::Form(a)),
             "run" => Some(Question::Run(a)),
             "report" => Some(Question::Report(a)),
             "group" => Some(Question::Group(a, b)),
@@ -115,6 +120,10 @@ fn library(question: Question, text: &[u8]) -> Call<'_> {
             let (a, b) = (a as usize, b as usize);
             let given = with_work(|work| boundary::fit(black_box(text), a, b, work));
             [given.refusal, given.line, given.fits, 0, 0, 0, 0]
+        }),
+        Question::Form(form) => Box::new(move || {
+            let g = with_work(|work| boundary::form(black_box(text), form as usize, work));
+            [g.refusal, g.line, 0, 0, 0, 0, g.length as u32]
         }),
         Question::Run(budget) => Box::new(move || {
             let g = with_work(|work| boundary::run(black_box(text), budget, work));
@@ -153,6 +162,13 @@ fn second_program(question: Question, text: &[u8]) -> Call<'_> {
             Ok(fits) => [0, 0, fits.into(), 0, 0, 0, 0],
             Err(refusal) => judged(Err(refusal)),
         }),
+        Question::Form(form) => {
+            let form = form as usize;
+            Box::new(move || match second::form(black_box(text), form) {
+                Ok(lines) => [0, 0, 0, 0, 0, 0, lines.len() as u32],
+                Err(refusal) => judged(Err(refusal)),
+            })
+        }
         Question::Run(budget) => Box::new(move || match second::run(black_box(text), budget) {
             Ok(run) => ran(run),
             Err(refusal) => judged(Err(refusal)),

@@ -40,6 +40,15 @@ pub fn fits(text: &[u8], a: usize, b: usize, work: &mut Work) -> Result<bool, Re
     Ok(given.fits == 1)
 }
 
+/// The lines of a form of the text's sheet, as they stand in the text: that
+/// part of the text itself. Forms count from 0, and the sheet only has to be
+/// readable.
+pub fn form<'a>(text: &'a [u8], form: usize, work: &mut Work) -> Result<&'a [u8], Refusal> {
+    let given = raw::form(text, form, &mut work.0[..]);
+    Refusal::check(given.refusal, given.line)?;
+    Ok(&text[given.start..given.start + given.length])
+}
+
 /// The verdict on the text's sheet: accepted, or why not.
 pub fn verdict(text: &[u8], work: &mut Work) -> Result<(), Refusal> {
     let given = raw::verdict(text, &mut work.0[..]);

@@ -69,6 +69,17 @@ pub struct ReportResult {
     pub count: u32,
 }
 
+/// The place of a form's lines: a refusal's number or 0, its line or 0, where
+/// they begin in the text and how many bytes they have, of a refused one 0.
+#[repr(C)]
+#[derive(Clone, Copy, Debug, PartialEq, Eq)]
+pub struct FormResult {
+    pub refusal: u32,
+    pub line: u32,
+    pub start: usize,
+    pub length: usize,
+}
+
 extern "C" {
     fn lexondar_fit(
         text: *const u8,
@@ -121,6 +132,13 @@ extern "C" {
         result: *mut u16,
         result_len: usize,
     ) -> ReportResult;
+    fn lexondar_form(
+        text: *const u8,
+        text_len: usize,
+        form: usize,
+        work: *mut u16,
+        work_len: usize,
+    ) -> FormResult;
 }
 
 /// Whether row a of the text's sheet fits row b.
@@ -222,6 +240,20 @@ pub fn report(text: &[u8], budget: u32, work: &mut [u16], result: &mut [u16]) ->
             work.len(),
             result.as_mut_ptr(),
             result.len(),
+        )
+    }
+}
+
+/// Where the lines of a form of the text's sheet stand in the text.
+pub fn form(text: &[u8], form: usize, work: &mut [u16]) -> FormResult {
+    // SAFETY: as above.
+    unsafe {
+        lexondar_form(
+            text.as_ptr(),
+            text.len(),
+            form,
+            work.as_mut_ptr(),
+            work.len(),
         )
     }
 }

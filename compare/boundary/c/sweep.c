@@ -1,5 +1,5 @@
 /*
- * Asks all six questions about each sheet of a file, with buffers that are
+ * Asks all seven questions about each sheet of a file, with buffers that are
  * exactly as long as asked and were never written, so that a memory checker
  * sees every read of what nobody wrote and every step outside. The file has
  * each sheet's length in four bytes, low byte first, and then the sheet.
@@ -65,6 +65,20 @@ static void ask_groups(const uint8_t *text, size_t length, uint32_t budget, uint
     }
 }
 
+/* The first forms' lines, by the bytes that they begin and end with. */
+static void ask_forms(const uint8_t *text, size_t length, uint16_t *work) {
+    for (size_t number = 0; number < 4; number++) {
+        struct lexondar_form_result form = lexondar_form(text, length, number, work, LEXONDAR_WORK);
+        add_fields(4, (uint32_t[]){form.refusal, form.line, (uint32_t)form.start,
+                                   (uint32_t)form.length});
+        add_work(work);
+        if (form.refusal == LEXONDAR_ANSWERED) {
+            add(text[form.start]);
+            add(text[form.start + form.length - 1]);
+        }
+    }
+}
+
 static void ask(const uint8_t *text, size_t length, uint32_t budget) {
     uint16_t *work = room(LEXONDAR_WORK * sizeof *work);
     uint16_t *held = room(LEXONDAR_AUTHORITY * sizeof *held);
@@ -72,6 +86,7 @@ static void ask(const uint8_t *text, size_t length, uint32_t budget) {
     struct lexondar_fit_result fit = lexondar_fit(text, length, 1, 0, work, LEXONDAR_WORK);
     add_fields(3, (uint32_t[]){fit.refusal, fit.line, fit.fits});
     add_work(work);
+    ask_forms(text, length, work);
     struct lexondar_run_result run = lexondar_run(text, length, budget, work, LEXONDAR_WORK);
     add_fields(6, (uint32_t[]){run.refusal, run.line, run.outcome, run.steps, run.value, run.objects});
     struct lexondar_authority_result one = lexondar_authority(

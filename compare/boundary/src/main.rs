@@ -1,12 +1,13 @@
 //! A small program over the library: a sheet on standard input, the answer to
 //! one question on standard output, in the second program's words.
 
-use boundary::{authority, fit, group, run, verdict, RunResult, AUTHORITY, WORK};
+use boundary::{authority, fit, form, group, run, verdict, RunResult, AUTHORITY, WORK};
 use std::io::Read;
 use std::process::ExitCode;
 
-const USAGE: &str = "usage: boundary verdict | boundary fit A B | boundary run BUDGET \
-                     | boundary authority BUDGET HOLDER | boundary group BUDGET HOLDER..  \
+const USAGE: &str = "usage: boundary verdict | boundary fit A B | boundary form F \
+                     | boundary run BUDGET | boundary authority BUDGET HOLDER \
+                     | boundary group BUDGET HOLDER..  \
                      (a sheet on standard input)";
 
 fn main() -> ExitCode {
@@ -38,6 +39,14 @@ fn answer(words: &[&str], text: &[u8]) -> Option<String> {
             let given = fit(text, a.parse().ok()?, b.parse().ok()?, &mut work);
             Some(match given.refusal {
                 0 => format!("fit={}\n", given.fits),
+                number => refused(number, given.line),
+            })
+        }
+        ["form", number] => {
+            let given = form(text, number.parse().ok()?, &mut work);
+            let lines = &text[given.start..given.start + given.length];
+            Some(match given.refusal {
+                0 => String::from_utf8_lossy(lines).into_owned(),
                 number => refused(number, given.line),
             })
         }

@@ -12,6 +12,7 @@ mod group;
 mod mill;
 mod mutate;
 mod plan;
+mod readable;
 pub mod report;
 mod rng;
 mod rows;
@@ -54,6 +55,12 @@ pub fn sheet(seed: u64, index: u64) -> Vec<u8> {
 /// long and make much use of fields.
 pub fn mill(seed: u64, index: u64) -> Vec<u8> {
     render(&mill::mill(&mut Rng::new(seed, index)))
+}
+
+/// A sheet that can be read, beside the rotation: it has any number of forms
+/// and is mostly ill typed.
+pub fn readable(seed: u64, index: u64) -> Vec<u8> {
+    render(&readable::readable(&mut Rng::new(seed, index)))
 }
 
 /// A well-typed sheet: seven styles, towers, and sheets of mostly rows.

@@ -6,13 +6,15 @@ use std::io::{self, Write};
 use std::process::ExitCode;
 
 const USAGE: &str = "\
-usage: generator SEED INDEX         write one sheet to standard output
-       generator mill SEED INDEX    write one mill to standard output
-       generator report SEED COUNT  judge and run sheets 0 to COUNT - 1 of a
-                                    seed and tell what they reach; exits with
-                                    status 1 if a refusal from 2 to 10 or an
-                                    outcome is reached by none
-       generator --help             this text
+usage: generator SEED INDEX           write one sheet to standard output
+       generator mill SEED INDEX      write one mill to standard output
+       generator readable SEED INDEX  write one readable sheet, mostly ill
+                                      typed, to standard output
+       generator report SEED COUNT    judge and run sheets 0 to COUNT - 1 of a
+                                      seed and tell what they reach; exits with
+                                      status 1 if a refusal from 2 to 10 or an
+                                      outcome is reached by none
+       generator --help               this text
 
 SEED, INDEX and COUNT are decimals of 64 bits.
 ";
@@ -31,6 +33,10 @@ fn main() -> ExitCode {
         },
         ["mill", seed, index] => match (number(seed), number(index)) {
             (Some(seed), Some(index)) => put(&generator::mill(seed, index)),
+            _ => return wrong(),
+        },
+        ["readable", seed, index] => match (number(seed), number(index)) {
+            (Some(seed), Some(index)) => put(&generator::readable(seed, index)),
             _ => return wrong(),
         },
         [seed, index] => match (number(seed), number(index)) {

@@ -1,6 +1,6 @@
-//! A plain reading of the sheet rules: reader, fit, verdict, bounded run,
-//! authority of a holder or a group, and printed answer. Every question
-//! takes the sheet's text.
+//! A plain reading of the sheet rules: reader, fit, a form's lines, verdict,
+//! bounded run, authority of a holder or a group, and printed answer. Every
+//! question takes the sheet's text.
 
 #![forbid(unsafe_code)]
 
@@ -13,6 +13,7 @@ mod print;
 mod reader;
 mod refusal;
 pub mod sheet;
+mod stretch;
 mod typing;
 
 pub use authority::{GROUP_LIMIT, MAIN};
@@ -34,6 +35,15 @@ pub fn fit(text: &[u8], a: u32, b: u32) -> Result<bool, Refusal> {
     };
     let (a, b) = (row(a)?, row(b)?);
     Ok(fit::FitTable::of(&sheet.rows).fits(a, b))
+}
+
+/// The lines of a form: the stretch of the text itself in which they stand.
+/// Stops after reading. Forms count from 0.
+pub fn form(text: &[u8], form: usize) -> Result<&[u8], Refusal> {
+    read(text)?;
+    let stretches = stretch::stretches(text);
+    let stretch = stretches.get(form).copied();
+    stretch.ok_or(Refusal::at(Reason::LooseEnd, 0))
 }
 
 /// Reads and judges a sheet.

@@ -116,11 +116,17 @@ impl<'a> Lines<'a> {
     }
 }
 
-/// Takes a line without its byte 10 apart.
-fn parse(line: &[u8]) -> Option<(Key, Vec<u16>)> {
+/// A line's key and what stands after its `=`.
+pub fn split_key(line: &[u8]) -> Option<(Key, &[u8])> {
     let equals = line.iter().position(|b| *b == b'=')?;
     let key = Key::from_word(&line[..equals])?;
-    let numbers = line[equals + 1..]
+    Some((key, &line[equals + 1..]))
+}
+
+/// Takes a line without its byte 10 apart.
+fn parse(line: &[u8]) -> Option<(Key, Vec<u16>)> {
+    let (key, numbers) = split_key(line)?;
+    let numbers = numbers
         .split(|b| *b == b',')
         .map(decimal)
         .collect::<Option<Vec<u16>>>()?;

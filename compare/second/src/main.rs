@@ -9,24 +9,26 @@ use std::process::ExitCode;
 const USAGE: &str = "\
 usage: second                          judge, run 10,000 steps, print all
        second fit A B                  fit=1 or fit=0
+       second form F                   the lines of form F as they stand
        second verdict                  verdict=0 and line=0
        second run BUDGET               run=OUTCOME,STEPS,VALUE,OBJECTS
        second authority BUDGET HOLDER  holder=HOLDER,OBJECT,.. ascending
        second group BUDGET HOLDER..    group=OBJECT,.. ascending
        second --help                   this text
 
-The sheet is read from standard input. A, B, BUDGET and HOLDER are decimals
-from 0 to 4294967295. Main is holder 256. The bare holder is printed where an
-authority is empty. A group lists any number of holders, or none; more than 16
-are refused. The bare word group is printed where its joined authority is
-empty. A refusal is printed as verdict=N and line=L in place of the answer,
-with exit status 0. A wrong command line exits with status 2.
+The sheet is read from standard input. A, B, F, BUDGET and HOLDER are decimals
+from 0 to 4294967295. Forms count from 0. Main is holder 256. The bare holder is
+printed where an authority is empty. A group lists any number of holders, or
+none; more than 16 are refused. The bare word group is printed where its joined
+authority is empty. A refusal is printed as verdict=N and line=L in place of the
+answer, with exit status 0. A wrong command line exits with status 2.
 ";
 
 /// What the command line asks for.
 enum Question {
     Print,
     Fit(u32, u32),
+    Form(u32),
     Verdict,
     Run(u32),
     Authority(u32, u32),
@@ -61,6 +63,7 @@ fn question(words: &[&str]) -> Option<Question> {
     Some(match words {
         [] => Question::Print,
         ["fit", a, b] => Question::Fit(number(a)?, number(b)?),
+        ["form", form] => Question::Form(number(form)?),
         ["verdict"] => Question::Verdict,
         ["run", budget] => Question::Run(number(budget)?),
         ["authority", budget, holder] => Question::Authority(number(budget)?, number(holder)?),
@@ -91,6 +94,7 @@ fn answer(question: Question) -> io::Result<()> {
         Question::Fit(a, b) => {
             second::fit(&text, a, b).map(|fits| format!("fit={}\n", u8::from(fits)))
         }
+        Question::Form(form) => second::form(&text, form as usize).map(plain),
         Question::Verdict => second::verdict(&text).map(|()| String::from(second::NO_REFUSAL)),
         Question::Run(budget) => second::run(&text, budget).map(run_line),
         Question::Authority(budget, holder) => {
@@ -114,6 +118,11 @@ fn read_input() -> io::Result<Vec<u8>> {
     input.by_ref().take(most).read_to_end(&mut text)?;
     io::copy(&mut input, &mut io::sink())?;
     Ok(text)
+}
+
+/// The lines of a sheet that can be read, which are plain text.
+fn plain(lines: &[u8]) -> String {
+    String::from_utf8_lossy(lines).into_owned()
 }
 
 fn run_line(answer: second::RunAnswer) -> String {

@@ -1,4 +1,4 @@
--- The fit question: a law for each exit. Assumes nothing.
+-- The fit question over the table: a law for each exit. Assumes nothing.
 use Prim.Native.Nat.{ℕ, _≤_, _<_}
 use native.Mathlib.Omega.{arith}
 use mathlib.Core.Path.{_≡_, refl, sym, ap, _∙_, subst}
@@ -6,25 +6,17 @@ use mathlib.Core.Bool.{Bool, true, false, cond, _&&_}
 use mathlib.Core.List.{List}
 use lib.Dec.{ltb}
 use lib.ListN.{length}
-use borrow.Author.Tests.{lt-ltb, le-ltb, le-leb}
-use Rattle.sheet_rules.specs.declared.Reason.{Reason}
-use Rattle.sheet_rules.specs.declared.Reason.the-variants.{BufferTooShort, NotDefined}
-use Rattle.sheet_rules.specs.declared.Verdict.{Verdict}
-use Rattle.sheet_rules.specs.Reading.{Meaning, unreadable, meaning}
-use Rattle.sheet_rules.specs.WellFormed.{WellFormed}
+use borrow.Author.Tests.{lt-ltb, le-ltb}
+use Rattle.sheet_rules.specs.declared.Reason.the-variants.{NotDefined}
 use Rattle.type_rules.specs.declared.FitReply.{FitReply}
 use Rattle.type_rules.specs.Fit.{fits}
-use Rattle.type_rules.specs.FitQuestion.{fitIn, fitOn, fitReply}
+use Rattle.type_rules.specs.FitQuestion.{fitIn}
 use Rattle.table.specs.Layout.{rowCountAt, workSize}
 use Rattle.table.specs.View.{cell, sheetIn}
-use Rattle.table.proofs.ViewLaws.{only-refl, only-trans, only-widen}
+use Rattle.table.proofs.ViewLaws.{only-refl, only-widen}
 use Rattle.question.specs.Asked.{ToldAlone}
-use Rattle.reader.specs.Reads.{verdictMeans, SheetRead}
-use Rattle.reader.proofs.SheetLaws.{read-means, read-wellFormed}
 use Rattle.fit.specs.Told.{tells, FitFilled}
 use Rattle.fit.proofs.SheetLaws.{sheet-tells}
-
--- over the table
 
 module _ (a b : ℕ) (w : List ℕ) {rows : ℕ} (counted : rows ≡ length ((sheetIn w) .rows)) where
   answer : Bool → Bool → FitReply
@@ -75,30 +67,3 @@ module _ (a b : ℕ) (w : List ℕ) {rows : ℕ} (counted : rows ≡ length ((sh
           written = refl;
           only = only-widen (omega arith) (omega arith) (filled .only);
         }
-
--- after reading
-
-module _ {text w w₁ : List ℕ} {v : Verdict} (a b : ℕ) (size : workSize ≤ length w) (s : SheetRead text w w₁ v) where
-  pub reply-sheet : v ≡ Verdict.Accepted → WellFormed (sheetIn w₁)
-  reply-sheet e = read-wellFormed text w w₁ size (subst (SheetRead text w w₁) e s)
-
-  pub reply-read : v ≡ Verdict.Accepted → {w′ : List ℕ} {r : FitReply} → ToldAlone (fitIn (sheetIn w₁) a b) w₁ w′ r → ToldAlone (fitReply text a b) w w′ r
-  unfolding fitReply
-  reply-read e k =
-      record {
-        same = k .same ∙ ap (λ (m : Meaning). fitOn m a b) (sym (read-means text w w₁ size (subst (SheetRead text w w₁) e s)));
-        written = refl;
-        only = only-trans (only-widen (omega arith) (omega arith) (s .only)) (k .only);
-      }
-
-  pub reply-refused : {q : Reason} {l : ℕ} → v ≡ Verdict.Refused q l → ToldAlone (fitReply text a b) w w₁ (FitReply.Refused q l)
-  unfolding fitReply
-  reply-refused e =
-      record {
-        same =
-            ap (λ (m : Meaning). fitOn m a b)
-            (ap (λ (x : Verdict). verdictMeans x (sheetIn w₁)) (sym e) ∙ s .told
-            ∙ ap (λ (x : Bool). cond x (meaning text) (unreadable BufferTooShort 0)) (le-leb workSize (length w) size));
-        written = refl;
-        only = only-widen (omega arith) (omega arith) (s .only);
-      }

@@ -1,6 +1,8 @@
 // The library that a terminal links: the questions with their answers in numbers, under plain names.
+ghost use Rattle.sheet_rules.specs.declared.FormReply.{FormReply as FormReplied};
 ghost use Rattle.sheet_rules.specs.declared.Reason.the-variants.{BufferTooShort};
 ghost use Rattle.sheet_rules.specs.declared.Verdict.{Verdict as VerdictGiven};
+ghost use Rattle.sheet_rules.specs.Stretch.{formReply};
 ghost use Rattle.type_rules.specs.declared.FitReply.{FitReply as FitAnswered};
 ghost use Rattle.type_rules.specs.FitQuestion.{fitReply};
 ghost use Rattle.type_rules.specs.Typing.{verdict};
@@ -14,9 +16,10 @@ ghost use Rattle.authority_rules.specs.Report.{report};
 ghost use Rattle.question.specs.Asked.{Asked, AskedAlone};
 ghost use Rattle.authority.specs.Every.{everySize};
 ghost use Rattle.authority_question.specs.Asked.{heldReply, heldNumbers, reportReply, reportNumbers};
-ghost use Rattle.results.specs.Results.{fitResult, verdictResult, runResult, authorityResult, reportResult};
+ghost use Rattle.results.specs.Results.{fitResult, verdictResult, runResult, authorityResult, reportResult, formResult};
 use results::AuthorityResult;
 use results::FitResult;
+use results::FormResult;
 use results::ReportResult;
 use results::RunResult;
 use results::VerdictResult;
@@ -84,4 +87,12 @@ pub extern "C" fn lexondar_report(
     ensures { λ r. ⌜ Asked everySize (reportResult (reportReply (report (now (text .entry)) budget))) (reportResult (Reported.Refused BufferTooShort 0)) (reportNumbers (report (now (text .entry)) budget)) (now (work .entry)) (now (result .entry)) (now (work .exit)) (now (result .exit)) r ⌝ }
 {
     results::report_result(authority_question::report::ask_report(text, budget, work, result))
+}
+
+// Where the lines of a form of a text's sheet stand in the text.
+#[no_mangle]
+pub extern "C" fn lexondar_form(text: &[u8], form: usize, work: &mut [u16]) -> FormResult
+    ensures { λ r. ⌜ AskedAlone (formResult (formReply (now (text .entry)) form)) (formResult (FormReplied.Refused BufferTooShort 0)) (now (work .entry)) (now (work .exit)) r ⌝ }
+{
+    results::form_result(form_question::ask_place(text, form, work))
 }

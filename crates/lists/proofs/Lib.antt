@@ -6,3 +6,4 @@ pub mod PutAtLaws
 pub mod ContainsLaws
 pub mod AnyAllLaws
 pub mod PassingLaws
+pub mod BeforeNthLaws

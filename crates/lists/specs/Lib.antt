@@ -5,3 +5,4 @@ pub mod PutAt
 pub mod Contains
 pub mod AnyAll
 pub mod Passing
+pub mod BeforeNth

@@ -1,3 +1,4 @@
 pub mod EndLaws
 pub mod MainLaws
 pub mod SheetLaws
+pub mod OnReading

@@ -20,7 +20,7 @@ use Rattle.sheet_rules.specs.Reader.{one, many, countLine, andThen}
 use Rattle.sheet_rules.specs.RowLines.{readRow}
 use Rattle.sheet_rules.specs.FormLines.{readForm}
 use Rattle.sheet_rules.specs.WellFormed.{WellFormed}
-use Rattle.sheet_rules.specs.Reading.{readable, unreadable, readSheet, conclude, meaning}
+use Rattle.sheet_rules.specs.Reading.{unreadable, readSheet, conclude, meaning}
 use Rattle.sheet_rules.proofs.ReaderLaws.{Gives, its-got, gives-one}
 use Rattle.sheet_rules.proofs.RowLinesLaws.{WellFormedRows, readRows-wellFormed}
 use Rattle.sheet_rules.proofs.ReadingLaws.{countLine-within, readable-wellFormed}
@@ -39,7 +39,7 @@ use Rattle.reader_loop.proofs.LoopLaws.{moved-on}
 use Rattle.reader_loop.proofs.ThenLaws.{past, line-then, line-stop, line-gives, moved-then, moved-stop}
 use Rattle.row_reader.specs.Reads.{RowsRead}
 use Rattle.form_reader.specs.Reads.{FormsUsed, FormsRead}
-use Rattle.reader.specs.Reads.{progressVerdict, textStart, endRest, instrsRest, mainRest, formsRest, rowsRest, RestRead, SheetRead}
+use Rattle.reader.specs.Reads.{progressVerdict, textStart, verdictMeans, endRest, instrsRest, mainRest, formsRest, rowsRest, RestRead, SheetRead}
 use Rattle.reader.proofs.MainLaws.{not-accepted, refused-by, rest-refused}
 
 -- FORMS AND MAIN
@@ -188,7 +188,7 @@ module _ (text w : List ℕ) where
 
 -- what the crates above have of a sheet that was read
 
-pub read-means : (text w w′ : List ℕ) → workSize ≤ length w → SheetRead text w w′ Verdict.Accepted → meaning text ≡ readable (sheetIn w′)
+pub read-means : (text w w′ : List ℕ) → workSize ≤ length w → {v : Verdict} → SheetRead text w w′ v → meaning text ≡ verdictMeans v (sheetIn w′)
 read-means text w w′ h k =
     sym (k .told ∙ ap (λ (b : Bool). cond b (meaning text) (unreadable BufferTooShort 0)) (le-leb workSize (length w) h))
 

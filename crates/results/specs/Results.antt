@@ -1,7 +1,9 @@
 -- What the library's answers are in numbers, as a caller in C has them (document 01, Turned away). Stands on the answers.
 use Prim.Native.Nat.{ℕ}
+use Rattle.sheet_rules.specs.declared.FormReply.{FormReply}
 use Rattle.sheet_rules.specs.declared.Verdict.{Verdict}
 use Rattle.sheet_rules.specs.Answers.{numberOf, verdictNumber, verdictLine}
+use Rattle.sheet_rules.specs.Stretch.{replyNumber, replyLine, partStart, partLength}
 use Rattle.type_rules.specs.declared.FitReply.{FitReply}
 use Rattle.machine_rules.specs.declared.RunReply.{RunReply}
 use Rattle.machine_rules.specs.Steps.{outcomeNumber}
@@ -12,6 +14,7 @@ use Rattle.results.specs.declared.RunResult.{RunResult}
 use Rattle.results.specs.declared.VerdictResult.{VerdictResult}
 use Rattle.results.specs.declared.AuthorityResult.{AuthorityResult}
 use Rattle.results.specs.declared.ReportResult.{ReportResult}
+use Rattle.results.specs.declared.FormResult.{FormResult}
 
 -- the fit question: refusal number or 0, its line or 0, and 1 for yes
 abbrev pub fitResult : FitReply → FitResult
@@ -42,3 +45,7 @@ countedResult r n =
 abbrev pub reportResult : ReportReply → ReportResult
 reportResult (ReportReply.Reported a n) = countedResult (runResult (RunReply.Ran a)) n
 reportResult (ReportReply.Refused r n) = countedResult (runResult (RunReply.Refused r n)) 0
+
+-- one form's lines: the refusal's number and line, and where the part of the text begins and how long it is (document 02, order 2)
+abbrev pub formResult : FormReply → FormResult
+formResult r = record { refusal = replyNumber r; line = replyLine r; start = partStart r; length = partLength r }

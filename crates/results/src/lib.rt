@@ -2,11 +2,12 @@
 ghost use mathlib.Core.Path.{_≡_};
 ghost use Rattle.sheet_rules.specs.Answers.{numberOf};
 ghost use Rattle.machine_rules.specs.Steps.{outcomeNumber};
-ghost use Rattle.results.specs.Results.{fitResult, verdictResult, runResult, authorityResult, countedResult, reportResult};
+ghost use Rattle.results.specs.Results.{fitResult, verdictResult, runResult, authorityResult, countedResult, reportResult, formResult};
 use authority_rules::AuthorityReply;
 use authority_rules::ReportReply;
 use machine_rules::Outcome;
 use machine_rules::RunReply;
+use sheet_rules::FormReply;
 use sheet_rules::Reason;
 use sheet_rules::Verdict;
 use type_rules::FitReply;
@@ -56,6 +57,15 @@ pub struct ReportResult {
     pub value: u32,
     pub objects: u32,
     pub count: u32,
+}
+
+// One form's lines: a refusal's number and line, or 0, 0 and where the lines begin in the text and how many bytes they have.
+#[repr(C)]
+pub struct FormResult {
+    pub refusal: u32,
+    pub line: u32,
+    pub start: usize,
+    pub length: usize,
 }
 
 // The number of a refusal.
@@ -199,5 +209,25 @@ pub fn report_result(reply: ReportReply) -> ReportResult
         ReportReply::Refused { reason, line } => {
             counted(run_result(RunReply::Refused { reason, line }), 0)
         }
+    }
+}
+
+// The reply of the question for one form's lines, in numbers.
+pub fn form_result(reply: FormReply) -> FormResult
+    ensures { λ r. ⌜ r ≡ formResult reply ⌝ }
+{
+    match reply {
+        FormReply::Lines { start, length } => FormResult {
+            refusal: 0,
+            line: 0,
+            start,
+            length,
+        },
+        FormReply::Refused { reason, line } => FormResult {
+            refusal: number_of(reason),
+            line,
+            start: 0,
+            length: 0,
+        },
     }
 }

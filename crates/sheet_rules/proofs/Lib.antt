@@ -13,4 +13,7 @@ pub mod TakenLaws
 pub mod LineWritten
 pub mod PrintLaws
 pub mod RoundTrip
+pub mod TextLines
+pub mod StretchLaws
+pub mod StretchCases
 pub mod DistinctLaws

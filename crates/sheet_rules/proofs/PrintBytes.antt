@@ -26,12 +26,12 @@ joinOn c (p ∷ []) = p
 joinOn c (p ∷ q ∷ ps) = p ++ (c ∷ joinOn c (q ∷ ps))
 
 -- there is always a piece
-record Pieces (c : ℕ) (bs : List ℕ) : Type 0 where
-  first : List ℕ
-  more : List (List ℕ)
-  is : splitOn c bs ≡ first ∷ more
+pub record Pieces (c : ℕ) (bs : List ℕ) : Type 0 where
+  pub first : List ℕ
+  pub more : List (List ℕ)
+  pub is : splitOn c bs ≡ first ∷ more
 
-pieces : (c : ℕ) (bs : List ℕ) → Pieces c bs
+pub pieces : (c : ℕ) (bs : List ℕ) → Pieces c bs
 unfolding splitOn
 pieces c [] = record { first = []; more = []; is = refl }
 pieces c (b ∷ bs) = go (splitOn c bs) refl (eqb b c) refl

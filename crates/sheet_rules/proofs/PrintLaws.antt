@@ -16,7 +16,7 @@ use Rattle.sheet_rules.specs.Reader.{Read, got, refused, Reader, give, a
 use Rattle.sheet_rules.specs.RowLines.{Heading, rowLine, memberLine, readRow}
 use Rattle.sheet_rules.specs.FormLines.{FormHeading, formLine, bodyLine, instrLine, readInstrs, readPart, readForm}
 use Rattle.sheet_rules.specs.Reading.{readEnd, readSheet, readable, conclude}
-use Rattle.sheet_rules.specs.Print.{kindNumber, memberWritten, rowWritten, rowsWritten, instrWritten, partWritten, partsWritten, keepWritten, formWritten, formsWritten, sheetWritten}
+use Rattle.sheet_rules.specs.Print.{kindNumber, memberWritten, rowWritten, rowsWritten, instrWritten, partWritten, partsWritten, keepWritten, formWritten, formsWritten, afterForms, sheetWritten}
 use Rattle.sheet_rules.proofs.TakenLaws.{Takes, takes, takes-none, takes-give, takes-map, takes-one, takes-then, takes-many}
 use Rattle.sheet_rules.proofs.LineWritten.{NumberWritten, types-written, forms-written, keep-written, init-written, body-written, main-written, row-written, form-written, member-written, instr-written}
 
@@ -58,7 +58,7 @@ unfolding partsWritten
 parts-snoc [] x = append-nil (partWritten x)
 parts-snoc (y ∷ ys) x = ap (λ (z : List Line). partWritten y ++ z) (parts-snoc ys x) ∙ sym (append-assoc (partWritten y) (partsWritten ys) (partWritten x))
 
-forms-snoc : (xs : List Form) (x : Form) → formsWritten (xs ++ (x ∷ [])) ≡ formsWritten xs ++ formWritten x
+pub forms-snoc : (xs : List Form) (x : Form) → formsWritten (xs ++ (x ∷ [])) ≡ formsWritten xs ++ formWritten x
 unfolding formsWritten
 forms-snoc [] x = append-nil (formWritten x)
 forms-snoc (y ∷ ys) x = ap (λ (z : List Line). formWritten y ++ z) (forms-snoc ys x) ∙ sym (append-assoc (formWritten y) (formsWritten ys) (formWritten x))
@@ -139,7 +139,10 @@ counts : (rows : List Row) (forms : List Form) (main : List Instr) (t f i : ℕ)
     → (line Place.Types (t ∷ []) ∷ []) ++ (rowsWritten rows ++ ((line Place.Forms (f ∷ []) ∷ []) ++ (formsWritten forms ++ ((line Place.Main (i ∷ []) ∷ []) ++ (map instrWritten main ++ [])))))
     ≡ sheetWritten (record { rows = rows; forms = forms; main = main })
 counts rows forms main t f i a b c =
-    λ j. line Place.Types (sym a j ∷ []) ∷ (rowsWritten rows ++ (line Place.Forms (sym b j ∷ []) ∷ (formsWritten forms ++ (line Place.Main (sym c j ∷ []) ∷ append-nil (map instrWritten main) j))))
+    let s : Sheet = record { rows = rows; forms = forms; main = main } in
+    (λ j. line Place.Types (sym a j ∷ []) ∷ (rowsWritten rows ++ (line Place.Forms (sym b j ∷ []) ∷ (formsWritten forms ++ (line Place.Main (sym c j ∷ []) ∷ append-nil (map instrWritten main) j)))))
+    ∙ ap (λ (z : List Line). line Place.Types (length rows ∷ []) ∷ z)
+    (sym (append-assoc (rowsWritten rows) (line Place.Forms (length forms ∷ []) ∷ []) (formsWritten forms ++ afterForms s)))
 
 sheet-takes : (ls : List Line) (n : ℕ) → Takes (λ s l. l ≡ sheetWritten s) ls (readSheet ls n)
 unfolding readSheet

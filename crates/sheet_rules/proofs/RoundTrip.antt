@@ -59,11 +59,10 @@ forms-proper (f ∷ fs) =
     a-line (proper tt)
     (proper-both (proper-both (proper-map keepWritten (λ b. proper tt) (f .keeps)) (parts-proper (f .parts))) (forms-proper fs))
 
-sheet-proper : (s : Sheet) → AllProper (sheetWritten s)
+pub sheet-proper : (s : Sheet) → AllProper (sheetWritten s)
 sheet-proper s =
-    a-line (proper tt) (proper-both (rows-proper (s .rows))
-    (a-line (proper tt) (proper-both (forms-proper (s .forms))
-    (a-line (proper tt) (proper-map instrWritten instr-proper (s .main))))))
+    proper-both (a-line (proper tt) (proper-both (rows-proper (s .rows)) (a-line (proper tt) no-line)))
+    (proper-both (forms-proper (s .forms)) (a-line (proper tt) (proper-map instrWritten instr-proper (s .main))))
 
 -- THE ROUND TRIP
 

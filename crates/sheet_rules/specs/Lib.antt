@@ -11,3 +11,4 @@ pub mod Answers
 pub mod Samples
 pub mod Decimals
 pub mod Print
+pub mod Stretch

@@ -67,20 +67,28 @@ unfoldable pub formsWritten : List Form → List Line
 formsWritten [] = []
 formsWritten (f ∷ fs) = formWritten f ++ formsWritten fs
 
+-- the lines before the forms: rows and the number of forms, each list after its count (The sheet)
+abbrev pub beforeForms : Sheet → List Line
+beforeForms s = line Place.Types (length (s .rows) ∷ []) ∷ (rowsWritten (s .rows) ++ (line Place.Forms (length (s .forms) ∷ []) ∷ []))
+
+-- the lines after the forms: `main=I` and main's instructions (The sheet)
+abbrev pub afterForms : Sheet → List Line
+afterForms s = line Place.Main (length (s .main) ∷ []) ∷ map instrWritten (s .main)
+
 -- the lines of a sheet: rows, forms and main, each after its count (The sheet)
 abbrev pub sheetWritten : Sheet → List Line
-sheetWritten s =
-    line Place.Types (length (s .rows) ∷ [])
-    ∷ (rowsWritten (s .rows)
-    ++ (line Place.Forms (length (s .forms) ∷ [])
-    ∷ (formsWritten (s .forms) ++ (line Place.Main (length (s .main) ∷ []) ∷ map instrWritten (s .main)))))
+sheetWritten s = beforeForms s ++ (formsWritten (s .forms) ++ afterForms s)
 
 -- THEIR BYTES
+
+-- a place's key and the equal sign after it (The sheet)
+abbrev pub keyText : Place → List ℕ
+keyText k = spelling k ++ (equals ∷ [])
 
 -- a line: its key, `=`, its numbers with `,` between, and byte 10; one without a number is none (The sheet)
 unfoldable pub lineBytes : Line → List ℕ
 lineBytes (line k []) = []
-lineBytes (line k (n ∷ ns)) = lineText (spelling k ++ (equals ∷ [])) n ns
+lineBytes (line k (n ∷ ns)) = lineText (keyText k) n ns
 lineBytes torn = []
 
 -- lines, one after another (The sheet)

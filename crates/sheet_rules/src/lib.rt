@@ -76,3 +76,10 @@ pub enum FitAnswer {
     WrongKind,
     Unmet { name: u16 },
 }
+
+// What the question for one form's lines answers: where they begin in the text and how many bytes they have, or a refusal with
+// its line.
+pub enum FormReply {
+    Lines { start: usize, length: usize },
+    Refused { reason: Reason, line: u32 },
+}

@@ -3,7 +3,7 @@
 use Prim.Native.Nat.{ℕ, suc, pred, _+_, _<_}
 use native.Mathlib.Omega.{arith}
 use mathlib.Core.Path.{_≡_, refl, sym, ap, _∙_, subst}
-use mathlib.Core.List.{List, [], _∷_, _++_, map, append-assoc}
+use mathlib.Core.List.{List, [], _∷_, _++_, map}
 use mathlib.Core.Option.{none, some}
 use lib.ListN.{length, getD, length-append, length-map}
 use lib.Seq.{getD-append-add}
@@ -21,7 +21,7 @@ use Rattle.sheet_rules.specs.Lines.{Line, line, torn, linesOf}
 use Rattle.sheet_rules.specs.Sheet.{Row, Instr, Part, init, body, Form, Sheet, noForm, formAt}
 use Rattle.sheet_rules.specs.Reading.{readable, meaning}
 use Rattle.sheet_rules.specs.WellFormed.{PartOf, field, method, WellFormed}
-use Rattle.sheet_rules.specs.Print.{memberWritten, rowWritten, rowsWritten, instrWritten, partWritten, partsWritten, keepWritten, formWritten, formsWritten}
+use Rattle.sheet_rules.specs.Print.{memberWritten, rowWritten, rowsWritten, instrWritten, partWritten, partsWritten, keepWritten, formWritten, formsWritten, beforeForms, afterForms}
 use Rattle.sheet_rules.proofs.ReadingLaws.{readable-wellFormed}
 use Rattle.sheet_rules.proofs.RoundTrip.{readable-lines}
 use Rattle.type_rules.specs.Fit.{fits}
@@ -81,7 +81,7 @@ module _ (judge : LineJudge) (s : Sheet) where
         pairwise-both (form-lines w (j 0 n (omega arith) (omega arith))) (forms-lines (suc n) fs (λ k m l e. j (suc k) m (omega arith) (omega arith)))
 
     -- the faults are those of the lines from the first `form` line on
-    pub faults-lines : Pairwise (FaultOf judge s) (lineFaults judge s) (formsWritten (s .forms) ++ (line Place.Main (length (s .main) ∷ []) ∷ map instrWritten (s .main)))
+    pub faults-lines : Pairwise (FaultOf judge s) (lineFaults judge s) (formsWritten (s .forms) ++ afterForms s)
     unfolding lineFaults
     faults-lines =
         pairwise-both (forms-lines 0 (s .forms) (λ k m l e. record { there = omega arith; is = ap (formAt s) (let same : m ≡ k = omega arith in same) }))
@@ -120,23 +120,15 @@ fault-line {judge} text {s} e {r} {n} t =
     subst (FaultOf judge s (some r)) (sym (at-line (f .place) (f .is))) (f .fault)
   where
     rest : List Line
-    rest = formsWritten (s .forms) ++ (line Place.Main (length (s .main) ∷ []) ∷ map instrWritten (s .main))
+    rest = formsWritten (s .forms) ++ afterForms s
 
-    front : List Line
-    front = line Place.Types (length (s .rows) ∷ []) ∷ (rowsWritten (s .rows) ++ (line Place.Forms (length (s .forms) ∷ []) ∷ []))
-
-    all : linesOf text ≡ front ++ rest
-    all =
-        readable-lines text s e
-        ∙ ap (λ (z : List Line). line Place.Types (length (s .rows) ∷ []) ∷ z) (sym (append-assoc (rowsWritten (s .rows)) (line Place.Forms (length (s .forms) ∷ []) ∷ []) rest))
-
-    size : suc (length front) ≡ firstFormLine s
+    size : suc (length (beforeForms s)) ≡ firstFormLine s
     size = omega (arith, length-append (rowsWritten (s .rows)) (line Place.Forms (length (s .forms) ∷ []) ∷ []), rows-count (s .rows))
 
     at-line : (place : ℕ) → n ≡ firstFormLine s + place → getD (linesOf text) (pred n) torn ≡ getD rest place torn
     at-line place q =
-        let m : pred n ≡ length front + place = omega (arith, size) in
-        (λ i. getD (all i) (m i) torn) ∙ getD-append-add front rest place torn
+        let m : pred n ≡ length (beforeForms s) + place = omega (arith, size) in
+        (λ i. getD (readable-lines text s e i) (m i) torn) ∙ getD-append-add (beforeForms s) rest place torn
 
 -- and so where typing refuses
 pub refused-line : (text : List ℕ) {s : Sheet} → meaning text ≡ readable s → {r : Reason} {n : ℕ} → typing s ≡ Refused r n

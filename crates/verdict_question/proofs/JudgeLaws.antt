@@ -2,30 +2,28 @@
 use Prim.Native.Nat.{ℕ, _≤_, _<_}
 use native.Mathlib.Omega.{arith}
 use mathlib.Core.Path.{_≡_, refl, sym, ap, _∙_, subst}
-use mathlib.Core.Bool.{Bool, cond}
 use mathlib.Core.List.{List}
 use lib.ListN.{length}
-use borrow.Author.Tests.{le-leb}
 use Rattle.sheet_rules.specs.declared.Reason.{Reason}
-use Rattle.sheet_rules.specs.declared.Reason.the-variants.{BufferTooShort}
 use Rattle.sheet_rules.specs.declared.Verdict.{Verdict}
 use Rattle.sheet_rules.specs.Sheet.{Sheet}
-use Rattle.sheet_rules.specs.Reading.{readable, unreadable, meaning}
+use Rattle.sheet_rules.specs.Reading.{readable, meaning}
 use Rattle.sheet_rules.specs.WellFormed.{WellFormed}
 use Rattle.type_rules.specs.Fit.{fits}
 use Rattle.type_rules.specs.Typing.{lineFaults, typedLines, firstFormLine, firstFault, typing, verdictOn, verdict}
 use Rattle.type_rules.proofs.AgreeLaws.{faults-agree}
 use Rattle.table.specs.Layout.{rowCountAt, workSize}
 use Rattle.table.specs.View.{cell, sheetIn}
-use Rattle.table.specs.Only.{Only}
 use Rattle.table.specs.Whole.{Whole}
 use Rattle.table.proofs.ViewLaws.{SameTable, only-trans, only-widen}
 use Rattle.table.proofs.PoolLaws.{placed-same}
 use Rattle.table.proofs.RowLaws.{rows-length}
 use Rattle.accepted.proofs.AcceptedLaws.{accepted-text}
-use Rattle.reader.specs.Reads.{verdictMeans, SheetRead}
+use Rattle.question.specs.Asked.{ToldAlone}
+use Rattle.reader.specs.Reads.{SheetRead}
 use Rattle.reader.proofs.MainLaws.{not-accepted}
-use Rattle.reader.proofs.SheetLaws.{read-means, read-wellFormed}
+use Rattle.reader.proofs.SheetLaws.{read-means}
+use Rattle.reader.proofs.OnReading.{read-only, read-whole, told-unread}
 use Rattle.fit.specs.Told.{tells, Comparable, FitFilled}
 use Rattle.fit.proofs.SheetLaws.{sheet-comparable, filled-sheet, sheet-tells}
 use Rattle.code_typing.specs.Told.{judgeIn}
@@ -34,24 +32,12 @@ use Rattle.typing.specs.Told.{SheetJudged}
 use Rattle.verdict_question.specs.Asked.{TextJudged}
 
 module _ {text w w₁ : List ℕ} {v : Verdict} (size : workSize ≤ length w) (s : SheetRead text w w₁ v) where
-  read-only : Only 0 workSize w w₁
-  read-only = only-widen (omega arith) (omega arith) (s .only)
-
   -- a text that is refused at reading
   pub text-refused : {q : Reason} {l : ℕ} → v ≡ Verdict.Refused q l → TextJudged text w w₁ v
   unfolding verdict
-  text-refused {q} {l} e =
+  text-refused e =
       record {
-        answered =
-            record {
-              same =
-                  e
-                  ∙ ap (verdictOn typing)
-                  (ap (λ (x : Verdict). verdictMeans x (sheetIn w₁)) (sym e) ∙ s .told
-                  ∙ ap (λ (x : Bool). cond x (meaning text) (unreadable BufferTooShort 0)) (le-leb workSize (length w) size));
-              written = refl;
-              only = read-only;
-            };
+        answered = subst (ToldAlone (verdict text) w w₁) (sym e) (told-unread size s (verdictOn typing) e);
         sheet = not-accepted e;
         accepted = not-accepted e;
       }
@@ -64,10 +50,10 @@ module _ {text w w₁ : List ℕ} {v : Verdict} (size : workSize ≤ length w) (
     means = read-means text w w₁ size accepted
 
     well : WellFormed (sheetIn w₁)
-    well = read-wellFormed text w w₁ size accepted
+    well = read-whole size s e .sheet
 
     size₁ : workSize ≤ length w₁
-    size₁ = omega (arith, s .only .size)
+    size₁ = read-whole size s e .size
 
     pub fill-comparable : {rows : ℕ} → rows ≡ cell w₁ rowCountAt → Comparable rows w₁
     fill-comparable n = subst (λ (k : ℕ). Comparable k w₁) (sym n) (sheet-comparable w₁ size₁ well)
@@ -101,7 +87,7 @@ module _ {text w w₁ : List ℕ} {v : Verdict} (size : workSize ≤ length w) (
                   same = k .told ∙ rule;
                   written = refl;
                   only =
-                      only-trans (only-trans read-only (only-widen (omega arith) (omega arith) (f .only)))
+                      only-trans (only-trans (read-only size s) (only-widen (omega arith) (omega arith) (f .only)))
                       (only-widen (omega arith) (omega arith) (k .only));
                 };
             sheet = λ c. read;

@@ -1,6 +1,6 @@
 //! The wrapper on the paper's sheet, and on the example of each refusal.
 
-use lexondar::{authority, fits, group, report, run, verdict};
+use lexondar::{authority, fits, form, group, report, run, verdict};
 use lexondar::{Held, Holders, Outcome, Reason, Refusal, Run, Work, MAIN};
 
 const CLERK: &[u8] = include_bytes!("../../../examples/clerk.sheet");
@@ -54,6 +54,24 @@ fn two_makers_hold_together_what_either_holds() {
     for list in [&[2, 0][..], &[2; 17]] {
         let refusal = joined(list).expect_err("no group");
         assert_eq!((refusal.reason, refusal.line), (Reason::NoHolder, 0));
+    }
+}
+
+#[test]
+fn the_clerk_s_forms_are_parts_of_the_caller_s_text() {
+    let mut work = Work::new();
+    let lines = ["form=0,0\n", "form=1,0\nbody=1\ncopy=1\n"];
+    let mut start = 63;
+    for (number, lines) in lines.into_iter().enumerate() {
+        let part = form(CLERK, number, &mut work).expect("a form of the sheet");
+        let place = &CLERK[start..start + lines.len()];
+        assert_eq!(part, lines.as_bytes(), "form {number}");
+        assert!(std::ptr::eq(part, place), "form {number} is a copy");
+        start += lines.len();
+    }
+    for number in [3, usize::MAX] {
+        let refusal = form(CLERK, number, &mut work).expect_err("three forms");
+        assert_eq!((refusal.reason, refusal.line), (Reason::NotDefined, 0));
     }
 }
 

@@ -34,7 +34,7 @@ fn files(folder: &Path, endings: &[&str]) -> Vec<PathBuf> {
 
 /// The names in a piece of antt or Rattle.
 fn words(text: &str) -> impl Iterator<Item = &str> {
-    text.split(|c: char| c.is_whitespace() || "(){}[],;.:=\"`".contains(c))
+    text.split(|c: char| c.is_whitespace() || "(){}[]<>,;.:=\"`".contains(c))
         .filter(|word| !word.is_empty())
 }
 

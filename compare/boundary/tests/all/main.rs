@@ -5,6 +5,7 @@ mod authority_edges;
 mod common;
 mod documents;
 mod fit;
+mod form;
 mod group_edges;
 mod held;
 mod linked;

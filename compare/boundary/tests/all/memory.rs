@@ -2,7 +2,8 @@
 //! gets, and a memory checker sees no step outside a buffer and no answer that
 //! rests on what was never written.
 
-use boundary::{authority, fit, group, report, run, verdict, AUTHORITY, GROUP, REPORT, WORK};
+use boundary::{authority, fit, form, group, report, run, verdict};
+use boundary::{AUTHORITY, GROUP, REPORT, WORK};
 use std::path::{Path, PathBuf};
 use std::process::Command;
 
@@ -72,6 +73,17 @@ impl Sum {
         }
     }
 
+    /// What `ask_forms` adds.
+    fn add_forms(&mut self, text: &[u8], work: &mut [u16]) {
+        for number in 0..4 {
+            let g = form(text, number, work);
+            self.add_fields(&[g.refusal, g.line, g.start as u32, g.length as u32]);
+            let part = &text[g.start..g.start + g.length];
+            let ends = part.first().into_iter().chain(part.last());
+            ends.for_each(|byte| self.add((*byte).into()));
+        }
+    }
+
     /// What `judge` and `ask` add, in their order.
     fn add_sheet(&mut self, text: &[u8]) {
         let (mut work, mut held, mut all) = (vec![7; WORK], vec![7; AUTHORITY], vec![7; REPORT]);
@@ -80,6 +92,7 @@ impl Sum {
         for budget in [0, 300] {
             let g = fit(text, 1, 0, &mut work);
             self.add_fields(&[g.refusal, g.line, g.fits]);
+            self.add_forms(text, &mut work);
             let g = run(text, budget, &mut work);
             self.add_fields(&[g.refusal, g.line, g.outcome, g.steps, g.value, g.objects]);
             let g = authority(text, budget, 256, &mut work, &mut held);

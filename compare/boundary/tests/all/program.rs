@@ -95,6 +95,24 @@ fn the_clerk_s_holders() {
 }
 
 #[test]
+fn forms_of_the_clerk() {
+    let cases = [
+        ("0", "form=0,0\n"),
+        ("1", "form=1,0\nbody=1\ncopy=1\n"),
+        ("2", "form=2,1\nkeep=1\nbody=1\ncall=2,1,1\n"),
+        ("3", "verdict=7\nline=0\n"),
+        ("18446744073709551615", "verdict=7\nline=0\n"),
+        ("18446744073709551616", ""),
+        ("-1", ""),
+    ];
+    for (number, lines) in cases {
+        assert_eq!(run(&["form", number], CLERK), lines, "form {number}");
+    }
+    let short = &CLERK[..CLERK.len() - 1];
+    assert_eq!(run(&["form", "0"], short), "verdict=3\nline=20\n");
+}
+
+#[test]
 fn groups_of_the_two_makers() {
     let cases: [(&[&str], &str); 6] = [
         (&["2", "3"], "group=1,2,3,4,5\n"),

@@ -1,10 +1,11 @@
-//! All six questions against the second program on the same sheets, with
+//! All seven questions against the second program on the same sheets, with
 //! buffers that are one number too short, exactly as long as asked, or longer.
 
 use crate::common::{budget_for, draw, is_left_clean, is_written, noise};
+use crate::form::{refused_at, stretch_of};
 use boundary::{
-    authority, entries, fit, group, report, run, verdict, AuthorityResult, FitResult, ReportResult,
-    RunResult, VerdictResult, AUTHORITY, REPORT, WORK,
+    authority, entries, fit, form, group, report, run, verdict, AuthorityResult, FitResult,
+    ReportResult, RunResult, VerdictResult, AUTHORITY, REPORT, WORK,
 };
 use second::machine::Machine;
 use second::Refusal;
@@ -76,6 +77,18 @@ impl Case<'_> {
         };
         self.ask((10, 0), (wanted, &[]), of(1, 0, 0), seen, |work, _| {
             fit(self.text, a as usize, b as usize, work)
+        });
+    }
+
+    fn ask_form(&self, seen: &mut Lengths) {
+        let number = match draw(self.seed ^ 104) % 40 {
+            0 => usize::MAX,
+            drawn => drawn as usize % 10,
+        };
+        let wanted = stretch_of(self.text, number);
+        let asked = (70, 0);
+        self.ask(asked, (wanted, &[]), refused_at(1, 0), seen, |work, _| {
+            form(self.text, number, work)
         });
     }
 
@@ -235,6 +248,7 @@ fn compare_half(first: u64, count: u64, noise: &[u16]) -> ([u32; 2], Lengths) {
         let text = &text[..];
         let case = Case { text, seed, noise };
         case.ask_fit(&mut seen);
+        case.ask_form(&mut seen);
         case.ask_verdict(&mut seen);
         match second::verdict(text) {
             Ok(()) => {

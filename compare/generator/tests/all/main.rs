@@ -2,6 +2,7 @@
 
 mod answers;
 mod edges;
+mod forms;
 mod groups;
 mod mills;
 mod report;

@@ -50,6 +50,8 @@ fn the_program_writes_sheets_and_reports() {
     }
     let text = program(&["mill", "8", "3"]);
     assert_eq!(text.stdout, generator::mill(8, 3));
+    let text = program(&["readable", "8", "3"]);
+    assert_eq!(text.stdout, generator::readable(8, 3));
     let told = program(&["report", "2", "1500"]);
     assert_eq!(told.status.code(), Some(0));
     assert_eq!(told.stdout, report(2, 1_500).lines().into_bytes());
@@ -57,13 +59,14 @@ fn the_program_writes_sheets_and_reports() {
 
 #[test]
 fn wrong_command_lines() {
-    let cases: [&[&str]; 7] = [
+    let cases: [&[&str]; 8] = [
         &[],
         &["1"],
         &["1", "x"],
         &["-1", "2"],
         &["report", "1"],
         &["mill", "1", "x"],
+        &["readable", "1", "x"],
         &["a", "b", "c"],
     ];
     for words in cases {

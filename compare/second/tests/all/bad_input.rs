@@ -1,7 +1,7 @@
 //! Bytes that are no sheet.
 
 use crate::common::*;
-use second::{authority, fit, group, print, run};
+use second::{authority, fit, form, group, print, run};
 
 /// Every question must give the same refusal.
 fn refused(text: &[u8], number: u32, line: u32) {
@@ -9,6 +9,7 @@ fn refused(text: &[u8], number: u32, line: u32) {
     assert_eq!(verdict(text), expected);
     assert_eq!(pair(second::read(text)), expected);
     assert_eq!(pair(fit(text, 0, 0)), expected);
+    assert_eq!(pair(form(text, 0)), expected);
     assert_eq!(pair(run(text, 8)), expected);
     assert_eq!(pair(authority(text, 8, 256)), expected);
     assert_eq!(pair(group(text, 8, &[256])), expected);

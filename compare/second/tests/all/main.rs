@@ -4,6 +4,7 @@ mod authority;
 mod bad_input;
 mod common;
 mod fit;
+mod form;
 mod group;
 mod machine;
 mod paper;

@@ -65,13 +65,36 @@ fn groups_of_any_length() {
 }
 
 #[test]
+fn the_lines_of_a_form() {
+    let cases: [(&[&str], &str); 6] = [
+        (&["form", "0"], "form=0,0\n"),
+        (&["form", "1"], "form=1,0\nbody=1\ncopy=1\n"),
+        (&["form", "2"], "form=2,1\nkeep=1\nbody=1\ncall=2,1,1\n"),
+        (&["form", "3"], "verdict=7\nline=0\n"),
+        (&["form", "65536"], "verdict=7\nline=0\n"),
+        (&["form", "4294967295"], "verdict=7\nline=0\n"),
+    ];
+    for (words, expected) in cases {
+        assert_eq!(program(words, CLERK), (expected.into(), 0), "{words:?}");
+    }
+    // A misfit is not asked for, a loose end is.
+    let misfit = with_line(CLERK, 19, "new=2,0");
+    assert_eq!(program(&["form", "0"], &misfit), ("form=0,0\n".into(), 0));
+    let loose = with_line(CLERK, 19, "new=3,1");
+    let refusal = "verdict=7\nline=19\n";
+    assert_eq!(program(&["form", "0"], &loose), (refusal.into(), 0));
+}
+
+#[test]
 fn refusals_are_answers() {
     let long = vec![b'7'; 70_000];
-    let questions: [&[&str]; 6] = [
+    let questions: [&[&str]; 8] = [
         &[],
         &["verdict"],
         &["run", "1"],
         &["fit", "0", "0"],
+        &["form", "0"],
+        &["form", "4294967295"],
         &["group", "1"],
         &["group", "1", "257"],
     ];
@@ -83,7 +106,7 @@ fn refusals_are_answers() {
 
 #[test]
 fn wrong_command_lines() {
-    let cases: [&[&str]; 13] = [
+    let cases: [&[&str]; 18] = [
         &["fits", "0", "1"],
         &["fit", "0"],
         &["verdict", "0"],
@@ -97,6 +120,11 @@ fn wrong_command_lines() {
         &["group", "x"],
         &["group", "8", "1", "-1"],
         &["group", "8", "1,2"],
+        &["form"],
+        &["form", "0", "1"],
+        &["form", "-1"],
+        &["form", "4294967296"],
+        &["forms", "0"],
     ];
     for words in cases {
         assert_eq!(program(words, CLERK), (String::new(), 2), "{words:?}");
@@ -104,4 +132,5 @@ fn wrong_command_lines() {
     let (help, status) = program(&["--help"], b"");
     assert!(help.contains("run=OUTCOME,STEPS,VALUE,OBJECTS") && status == 0);
     assert!(help.contains("group BUDGET HOLDER.."));
+    assert!(help.contains("second form F "));
 }

@@ -1,0 +1,2 @@
+pub mod BorderLaws
+pub mod StretchFound

@@ -1,0 +1,244 @@
+-- A form's stretch of a readable text is the print of that form of its sheet, and stands after the print of all before it.
+-- Assumes nothing.
+use Prim.Native.Nat.{ℕ, zero, suc, _+_, _≤_, _<_}
+use native.Mathlib.Omega.{arith}
+use native.Mathlib.Decide.{decLt}
+use mathlib.Core.Path.{_≡_, refl, sym, ap, _∙_, subst}
+use mathlib.Core.Bool.{Bool, true, false, cond, _||_}
+use mathlib.Core.List.{List, [], _∷_, _++_, map, map-append, append-assoc, flatten}
+use lib.ListN.{length, getD, take, drop, length-append}
+use lib.Seq.{take-suc, take-append-seam, drop-append-seam, drop-drop}
+use borrow.Author.Tests.{lt-ltb, le-ltb}
+use Rattle.lists.specs.BeforeNth.{beforeNth}
+use Rattle.lists.proofs.BeforeNthLaws.{NonePass, no-element, another, nth-here, nth-later, nth-none, nth-map, none-both, none-map}
+use Rattle.sheet_rules.specs.declared.FormReply.{FormReply}
+use Rattle.sheet_rules.specs.declared.FormReply.the-variants.{Lines, Refused}
+use Rattle.sheet_rules.specs.declared.Member.{Member}
+use Rattle.sheet_rules.specs.declared.Member.the-variants.{Method, Field}
+use Rattle.sheet_rules.specs.declared.MemberKind.{MemberKind}
+use Rattle.sheet_rules.specs.declared.Operation.{Operation}
+use Rattle.sheet_rules.specs.declared.Place.{Place}
+use Rattle.sheet_rules.specs.declared.Reason.{Reason}
+use Rattle.sheet_rules.specs.declared.Reason.the-variants.{NotDefined}
+use Rattle.sheet_rules.specs.Keys.{bytes, samePlace}
+use Rattle.sheet_rules.specs.Lines.{Line, line}
+use Rattle.sheet_rules.specs.Sheet.{Row, Instr, new, call, get, put, copy, Part, init, body, Form, Sheet, noForm, formAt}
+use Rattle.sheet_rules.specs.Reading.{Meaning, readable, unreadable, meaning}
+use Rattle.sheet_rules.specs.Print.{kindNumber, memberWritten, rowsWritten, instrWritten, partWritten, partsWritten, keepWritten, formWritten, formsWritten, beforeForms, afterForms, sheetWritten, lineBytes, linesBytes, print}
+use Rattle.sheet_rules.specs.Stretch.{textLines, begins, formBorder, formLines, formStretch, formOn, formReply, partStart, partLength, linesBefore, linesAfter, Shows}
+use Rattle.sheet_rules.proofs.PrintLaws.{forms-snoc}
+use Rattle.sheet_rules.proofs.RoundTrip.{readable-print}
+use Rattle.sheet_rules.proofs.TextLines.{text-lines, flatten-lines}
+
+-- a line of a sheet that is a border
+abbrev border : Line → Bool
+border l = formBorder (lineBytes l)
+
+-- THE BORDERS OF A SHEET ARE ITS `form` LINES AND `main`
+
+border-key : (k : Place) (n : ℕ) (ns : List ℕ) → border (line k (n ∷ ns)) ≡ (samePlace k Place.Form || samePlace k Place.Main)
+unfolding lineBytes bytes begins
+border-key Place.Types n ns = refl
+border-key Place.Row n ns = refl
+border-key (Place.Member MemberKind.Method) n ns = refl
+border-key (Place.Member MemberKind.Field) n ns = refl
+border-key Place.Forms n ns = refl
+border-key Place.Form n ns = refl
+border-key Place.Keep n ns = refl
+border-key Place.Init n ns = refl
+border-key Place.Body n ns = refl
+border-key Place.Main n ns = refl
+border-key (Place.Instruction Operation.New) n ns = refl
+border-key (Place.Instruction Operation.Call) n ns = refl
+border-key (Place.Instruction Operation.Get) n ns = refl
+border-key (Place.Instruction Operation.Put) n ns = refl
+border-key (Place.Instruction Operation.Copy) n ns = refl
+border-key Place.Nowhere n ns = refl
+
+member-within : (m : Member) → border (memberWritten m) ≡ false
+member-within (Method n a r) = border-key (Place.Member MemberKind.Method) n (a ∷ r ∷ [])
+member-within (Field n r) = border-key (Place.Member MemberKind.Field) n (r ∷ [])
+
+instr-within : (i : Instr) → border (instrWritten i) ≡ false
+instr-within (new f ss) = border-key (Place.Instruction Operation.New) f ss
+instr-within (call o n a) = border-key (Place.Instruction Operation.Call) o (n ∷ a ∷ [])
+instr-within (get n) = border-key (Place.Instruction Operation.Get) n []
+instr-within (put n v) = border-key (Place.Instruction Operation.Put) n (v ∷ [])
+instr-within (copy v) = border-key (Place.Instruction Operation.Copy) v []
+
+rows-within : (rows : List Row) → NonePass border (rowsWritten rows)
+unfolding rowsWritten
+rows-within [] = no-element
+rows-within (a ∷ bs) = another (border-key Place.Row (kindNumber (a .kind)) (length (a .members) ∷ [])) (none-both border (none-map border memberWritten member-within (a .members)) (rows-within bs))
+
+part-within : (p : Part) → NonePass border (partWritten p)
+part-within (init k) = another (border-key Place.Init k []) no-element
+part-within (body is) = another (border-key Place.Body (length is) []) (none-map border instrWritten instr-within is)
+
+parts-within : (ps : List Part) → NonePass border (partsWritten ps)
+unfolding partsWritten
+parts-within [] = no-element
+parts-within (p ∷ ps) = none-both border (part-within p) (parts-within ps)
+
+-- the lines of a form after its first
+abbrev afterFirst : Form → List Line
+afterFirst f = map keepWritten (f .keeps) ++ partsWritten (f .parts)
+
+form-within : (f : Form) → NonePass border (afterFirst f)
+form-within f = none-both border (none-map border keepWritten (λ b. border-key Place.Keep b []) (f .keeps)) (parts-within (f .parts))
+
+form-border : (f : Form) → border (line Place.Form (f .row ∷ length (f .keeps) ∷ [])) ≡ true
+form-border f = border-key Place.Form (f .row) (length (f .keeps) ∷ [])
+
+-- BEFORE A BORDER
+
+-- before the n-th border of some forms, and of the border at which they end
+forms-before : (n : ℕ) (fs : List Form) → n ≤ length fs → (l : Line) (ls : List Line) → border l ≡ true
+    → beforeNth border n (formsWritten fs ++ (l ∷ ls)) ≡ formsWritten (take n fs)
+unfolding formsWritten
+forms-before zero [] h l ls e = nth-here border ls e
+forms-before zero (f ∷ fs) h l ls e = nth-here border ((afterFirst f ++ formsWritten fs) ++ (l ∷ ls)) (form-border f)
+forms-before (suc n) [] h l ls e = absurd (omega arith)
+forms-before (suc n) (f ∷ fs) h l ls e =
+    nth-later border n ((afterFirst f ++ formsWritten fs) ++ (l ∷ ls)) (form-border f)
+    ∙ ap (λ (zs : List Line). line Place.Form (f .row ∷ length (f .keeps) ∷ []) ∷ zs)
+    (ap (beforeNth border n) (append-assoc (afterFirst f) (formsWritten fs) (l ∷ ls))
+    ∙ nth-none border n (form-within f) (formsWritten fs ++ (l ∷ ls))
+    ∙ ap (λ (zs : List Line). afterFirst f ++ zs) (forms-before n fs (omega arith) l ls e))
+
+sheet-before : (s : Sheet) (n : ℕ) → n ≤ length (s .forms)
+    → beforeNth border n (sheetWritten s) ≡ beforeForms s ++ formsWritten (take n (s .forms))
+sheet-before s n h =
+    nth-none border n
+    (another (border-key Place.Types (length (s .rows)) [])
+    (none-both border (rows-within (s .rows)) (another (border-key Place.Forms (length (s .forms)) []) no-element)))
+    (formsWritten (s .forms) ++ afterForms s)
+    ∙ ap (λ (zs : List Line). beforeForms s ++ zs)
+    (forms-before n (s .forms) h (line Place.Main (length (s .main) ∷ [])) (map instrWritten (s .main)) (border-key Place.Main (length (s .main)) []))
+
+-- REFUSED
+
+module _ (text : List ℕ) (f : ℕ) where
+  pub refused-read : {r : Reason} {n : ℕ} → meaning text ≡ unreadable r n → formReply text f ≡ Refused r n
+  unfolding formReply
+  refused-read e = ap (λ (m : Meaning). formOn text m f) e
+
+  pub missing-form : {s : Sheet} → meaning text ≡ readable s → length (s .forms) ≤ f → formReply text f ≡ Refused NotDefined 0
+  unfolding formReply
+  missing-form {s} e h =
+      ap (λ (m : Meaning). formOn text m f) e
+      ∙ ap (λ (b : Bool). cond b (formStretch f (textLines text)) (Refused NotDefined 0)) (le-ltb f (length (s .forms)) h)
+
+-- THE STRETCH
+
+forms-split : (f : ℕ) (fs : List Form) → f < length fs
+    → formsWritten fs ≡ formsWritten (take f fs) ++ (formWritten (getD fs f noForm) ++ formsWritten (drop (suc f) fs))
+unfolding formsWritten
+forms-split f [] h = absurd (omega arith)
+forms-split zero (g ∷ gs) h = refl
+forms-split (suc f) (g ∷ gs) h =
+    ap (λ (zs : List Line). formWritten g ++ zs) (forms-split f gs (omega arith))
+    ∙ sym (append-assoc (formWritten g) (formsWritten (take f gs)) (formWritten (getD gs f noForm) ++ formsWritten (drop (suc f) gs)))
+
+lines-both : (ls ms : List Line) → linesBytes (ls ++ ms) ≡ linesBytes ls ++ linesBytes ms
+unfolding linesBytes
+lines-both [] ms = refl
+lines-both (l ∷ ls) ms =
+    ap (λ (zs : List ℕ). lineBytes l ++ zs) (lines-both ls ms)
+    ∙ sym (append-assoc (lineBytes l) (linesBytes ls) (linesBytes ms))
+
+module _ (text : List ℕ) (s : Sheet) (e : meaning text ≡ readable s) where
+  -- the lines before border n, and their bytes
+  text-before : (n : ℕ) → n ≤ length (s .forms) → beforeNth formBorder n (textLines text) ≡ map lineBytes (linesBefore s n)
+  text-before n h =
+      ap (beforeNth formBorder n) (text-lines text s e)
+      ∙ nth-map formBorder lineBytes n (sheetWritten s)
+      ∙ ap (map lineBytes) (sheet-before s n h)
+
+  module _ (f : ℕ) (h : f < length (s .forms)) where
+    before-suc : linesBefore s (suc f) ≡ linesBefore s f ++ formWritten (formAt s f)
+    before-suc =
+        ap (λ (zs : List Line). beforeForms s ++ zs) (ap formsWritten (take-suc (s .forms) f noForm h) ∙ forms-snoc (take f (s .forms)) (formAt s f))
+        ∙ sym (append-assoc (beforeForms s) (formsWritten (take f (s .forms))) (formWritten (formAt s f)))
+
+    text-own : formLines f (textLines text) ≡ map lineBytes (formWritten (formAt s f))
+    text-own =
+        (λ i. drop (length (text-before f (omega arith) i)) (text-before (suc f) h i))
+        ∙ ap (drop (length (map lineBytes (linesBefore s f)))) (ap (map lineBytes) before-suc ∙ map-append lineBytes (linesBefore s f) (formWritten (formAt s f)))
+        ∙ drop-append-seam (map lineBytes (linesBefore s f)) (map lineBytes (formWritten (formAt s f)))
+
+    text-parts : text ≡ linesBytes (linesBefore s f) ++ (linesBytes (formWritten (formAt s f)) ++ linesBytes (linesAfter s f))
+    unfolding print
+    text-parts =
+        readable-print text s e
+        ∙ ap linesBytes
+        (ap (λ (zs : List Line). beforeForms s ++ (zs ++ afterForms s)) (forms-split f (s .forms) h)
+        ∙ ap (λ (zs : List Line). beforeForms s ++ zs)
+        (append-assoc (formsWritten (take f (s .forms))) (formWritten (formAt s f) ++ formsWritten (drop (suc f) (s .forms))) (afterForms s)
+        ∙ ap (λ (zs : List Line). formsWritten (take f (s .forms)) ++ zs) (append-assoc (formWritten (formAt s f)) (formsWritten (drop (suc f) (s .forms))) (afterForms s)))
+        ∙ sym (append-assoc (beforeForms s) (formsWritten (take f (s .forms))) (formWritten (formAt s f) ++ linesAfter s f)))
+        ∙ lines-both (linesBefore s f) (formWritten (formAt s f) ++ linesAfter s f)
+        ∙ ap (λ (zs : List ℕ). linesBytes (linesBefore s f) ++ zs) (lines-both (formWritten (formAt s f)) (linesAfter s f))
+
+    -- a form that is there is given
+    pub form-given : formReply text f ≡ Lines (length (linesBytes (linesBefore s f))) (length (linesBytes (formWritten (formAt s f))))
+    unfolding formReply
+    form-given =
+        ap (λ (m : Meaning). formOn text m f) e
+        ∙ ap (λ (b : Bool). cond b (formStretch f (textLines text)) (Refused NotDefined 0)) (lt-ltb f (length (s .forms)) h)
+        ∙ (λ i. Lines
+        (length ((ap flatten (text-before f (omega arith)) ∙ flatten-lines (linesBefore s f)) i))
+        (length ((ap flatten text-own ∙ flatten-lines (formWritten (formAt s f))) i)))
+
+    shown : Shows text f (length (linesBytes (linesBefore s f))) (length (linesBytes (formWritten (formAt s f))))
+    shown =
+        let front : List ℕ = linesBytes (linesBefore s f) in
+        let own : List ℕ = linesBytes (formWritten (formAt s f)) in
+        let rest : List ℕ = linesBytes (linesAfter s f) in
+        record {
+          sheet = s;
+          means = e;
+          there = h;
+          before = ap (take (length front)) text-parts ∙ take-append-seam front (own ++ rest);
+          own =
+              ap (λ (bs : List ℕ). take (length own) (drop (length front) bs)) text-parts
+              ∙ ap (take (length own)) (drop-append-seam front (own ++ rest)) ∙ take-append-seam own rest;
+          after =
+              ap (drop (length front + length own)) text-parts ∙ sym (drop-drop (length own) (length front) (front ++ (own ++ rest)))
+              ∙ ap (drop (length own)) (drop-append-seam front (own ++ rest)) ∙ drop-append-seam own rest;
+        }
+
+-- what is answered: the form's place, where it is there, or a refusal
+data Answered (text : List ℕ) (f : ℕ) : FormReply → Type 0 where
+  given : (s : Sheet) → meaning text ≡ readable s → f < length (s .forms)
+      → Answered text f (Lines (length (linesBytes (linesBefore s f))) (length (linesBytes (formWritten (formAt s f)))))
+  turned-away : {r : Reason} {n : ℕ} → Answered text f (Refused r n)
+
+answered : (text : List ℕ) (f : ℕ) → Answered text f (formReply text f)
+answered text f = go (meaning text) refl
+  where
+    go : (m : Meaning) → meaning text ≡ m → Answered text f (formReply text f)
+    go (unreadable r n) e = subst (Answered text f) (sym (refused-read text f e)) turned-away
+    go (readable s) e = there (decLt f (length (s .forms)))
+      where
+        there : Dec (f < length (s .forms)) → Answered text f (formReply text f)
+        there (yes h) = subst (Answered text f) (sym (form-given text s e f h)) (given s e h)
+        there (no h) = subst (Answered text f) (sym (missing-form text f e (omega (arith, h)))) turned-away
+
+-- whatever the text and the number, what is given shows that form of the sheet that the text means
+pub form-shown : (text : List ℕ) (f : ℕ) {start size : ℕ} → formReply text f ≡ Lines start size → Shows text f start size
+form-shown text f e = go (subst (Answered text f) e (answered text f))
+  where
+    go : {start size : ℕ} → Answered text f (Lines start size) → Shows text f start size
+    go (given s e h) = shown text s e f h
+
+-- and is a part of the text
+pub given-within : (text : List ℕ) (f : ℕ) → partStart (formReply text f) + partLength (formReply text f) ≤ length text
+given-within text f = go (answered text f)
+  where
+    go : {r : FormReply} → Answered text f r → partStart r + partLength r ≤ length text
+    go turned-away = omega arith
+    go (given s e h) =
+        let own : List ℕ = linesBytes (formWritten (formAt s f)) in
+        let rest : List ℕ = linesBytes (linesAfter s f) in
+        omega (arith, ap length (text-parts text s e f h), length-append (linesBytes (linesBefore s f)) (own ++ rest), length-append own rest)
