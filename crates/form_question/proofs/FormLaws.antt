@@ -10,14 +10,14 @@ use denote.Ref.{RefT}
 use Rattle.sheet_rules.specs.declared.FormReply.{FormReply}
 use Rattle.sheet_rules.specs.declared.Reason.the-variants.{BufferTooShort, NotDefined}
 use Rattle.sheet_rules.specs.Sheet.{Sheet}
-use Rattle.sheet_rules.specs.Stretch.{textLines, formStretch, formIn, formReply, partStart, partLength}
+use Rattle.sheet_rules.specs.Stretch.{textLines, formStretch, formIn, formReply, stretchStart, stretchLength}
 use Rattle.sheet_rules.proofs.StretchLaws.{given-within}
 use Rattle.question.specs.Asked.{enough}
 use Rattle.form_scan.specs.Borders.{borderPlace}
 use Rattle.form_scan.proofs.StretchFound.{stretch-found}
 use Rattle.results.specs.declared.FormResult.{FormResult}
 use Rattle.results.specs.Results.{formResult}
-use Rattle.form_question.specs.Asked.{PlaceAsked, answerIn, FormAsked}
+use Rattle.form_question.specs.Asked.{PlaceAsked, replyIn, FormAsked}
 
 -- over the table
 
@@ -36,26 +36,26 @@ module _ (text : List ℕ) (s : Sheet) (f : ℕ) {forms : ℕ} (counted : forms 
 
 -- what is answered is a part of the text, in whatever buffer
 
-asked-within : (text : List ℕ) (f : ℕ) (w : List ℕ) → partStart (answerIn text f w) + partLength (answerIn text f w) ≤ length text
+asked-within : (text : List ℕ) (f : ℕ) (w : List ℕ) → stretchStart (replyIn text f w) + stretchLength (replyIn text f w) ≤ length text
 asked-within text f w = go (enough {B = ℕ} 0 w [])
   where
-    go : (b : Bool) → let r = cond b (formReply text f) (FormReply.Refused BufferTooShort 0) in partStart r + partLength r ≤ length text
+    go : (b : Bool) → let r = cond b (formReply text f) (FormReply.Refused BufferTooShort 0) in stretchStart r + stretchLength r ≤ length text
     go true = given-within text f
     go false = omega arith
 
 -- and it is given
 
 module _ (text : RefT (List ℕ)) (f : ℕ) {w w′ : List ℕ} {reply : FormReply} (k : PlaceAsked (text .now) f w w′ reply) {x : FormResult} (e : x ≡ formResult reply) where
-  told : x ≡ formResult (answerIn (text .now) f w)
+  told : x ≡ formResult (replyIn (text .now) f w)
   told = e ∙ ap formResult (k .told)
 
   pub end-within : x .start + x .length ≤ length (text .now)
   end-within =
       omega (arith, ap (λ (r : FormResult). r .start) told, ap (λ (r : FormResult). r .length) told, asked-within (text .now) f w)
 
-  pub form-given : (part : RefT (List ℕ)) → part .ptr .0 ≡ text .ptr .0 → part .ptr .1 ≡ text .ptr .1 + x .start
+  pub form-asked : (part : RefT (List ℕ)) → part .ptr .0 ≡ text .ptr .0 → part .ptr .1 ≡ text .ptr .1 + x .start
       → part .now ≡ take (x .start + x .length - x .start) (drop (x .start) (text .now)) → FormAsked text f w w′ (x .refusal) (x .line) part
-  form-given part b p t =
+  form-asked part b p t =
       record {
         given =
             record {

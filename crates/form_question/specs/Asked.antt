@@ -8,7 +8,7 @@ use lib.ListN.{take, drop}
 use denote.Ref.{RefT}
 use Rattle.sheet_rules.specs.declared.FormReply.{FormReply}
 use Rattle.sheet_rules.specs.declared.Reason.the-variants.{BufferTooShort}
-use Rattle.sheet_rules.specs.Stretch.{formReply, replyNumber, replyLine, partStart, partLength}
+use Rattle.sheet_rules.specs.Stretch.{formReply, replyNumber, replyLine, stretchStart, stretchLength}
 use Rattle.question.specs.Asked.{enough, AskedAlone}
 use Rattle.question.specs.Cleared.{cleared}
 
@@ -17,18 +17,18 @@ abbrev pub PlaceAsked : List ℕ → ℕ → (w w′ : List ℕ) → FormReply �
 PlaceAsked text f w w′ r = AskedAlone (formReply text f) (FormReply.Refused BufferTooShort 0) w w′ r
 
 -- what is answered about a text in a work buffer: the rule's answer, or in one that is too short the refusal before all others
-abbrev pub answerIn : List ℕ → ℕ → List ℕ → FormReply
-answerIn text f w = cond (enough {B = ℕ} 0 w []) (formReply text f) (FormReply.Refused BufferTooShort 0)
+abbrev pub replyIn : List ℕ → ℕ → List ℕ → FormReply
+replyIn text f w = cond (enough {B = ℕ} 0 w []) (formReply text f) (FormReply.Refused BufferTooShort 0)
 
 -- a part of the caller's own text, not a copy: it stands in the same block of memory, `start` bytes after the text's first
-pub record PartOf (text : RefT (List ℕ)) (start size : ℕ) (part : RefT (List ℕ)) : Type 0 where
+pub record StretchOf (text : RefT (List ℕ)) (start size : ℕ) (part : RefT (List ℕ)) : Type 0 where
   pub block : part .ptr .0 ≡ text .ptr .0
   pub place : part .ptr .1 ≡ text .ptr .1 + start
   pub bytes : part .now ≡ take size (drop start (text .now))
 
 -- the promise of the lines: the part of the text, the two lent numbers, and the work buffer left as the paper says
 pub record FormAsked (text : RefT (List ℕ)) (f : ℕ) (w w′ : List ℕ) (number line : ℕ) (part : RefT (List ℕ)) : Type 0 where
-  pub given : PartOf text (partStart (answerIn (text .now) f w)) (partLength (answerIn (text .now) f w)) part
-  pub numbered : number ≡ replyNumber (answerIn (text .now) f w)
-  pub lined : line ≡ replyLine (answerIn (text .now) f w)
+  pub given : StretchOf text (stretchStart (replyIn (text .now) f w)) (stretchLength (replyIn (text .now) f w)) part
+  pub numbered : number ≡ replyNumber (replyIn (text .now) f w)
+  pub lined : line ≡ replyLine (replyIn (text .now) f w)
   pub left : w′ ≡ cond (enough {B = ℕ} 0 w []) (cleared w) w

@@ -33,23 +33,22 @@ first-more b bs e = ap (λ (x : Bool). getD (cond x ((b ∷ []) ∷ textLines bs
     front [] = refl
     front (l ∷ ls) = refl
 
--- and the lines after it
-pub lines-on : (b : ℕ) (bs : List ℕ) → textLines (b ∷ bs) ≡ firstLine (b ∷ bs) ∷ textLines (drop (lineLength (b ∷ bs)) (b ∷ bs))
+-- these are the lines of some bytes: the first, and then those of the bytes after it
+abbrev Splits : List ℕ → List (List ℕ) → Type 0
+Splits bs ls = ls ≡ getD ls 0 [] ∷ textLines (drop (length (getD ls 0 [])) bs)
+
+pub lines-on : (b : ℕ) (bs : List ℕ) → Splits (b ∷ bs) (textLines (b ∷ bs))
 unfolding textLines
 lines-on b [] = go (eqb b newline)
   where
-    go : (x : Bool) → cond x ((b ∷ []) ∷ []) ((b ∷ []) ∷ []) ≡ getD (cond x ((b ∷ []) ∷ []) ((b ∷ []) ∷ [])) 0 [] ∷ textLines (drop (length (getD (cond x ((b ∷ []) ∷ []) ((b ∷ []) ∷ [])) 0 [])) (b ∷ []))
+    go : (x : Bool) → Splits (b ∷ []) (cond x ((b ∷ []) ∷ []) ((b ∷ []) ∷ []))
     go true = refl
     go false = refl
 lines-on b (c ∷ cs) = go (eqb b newline) (lines-on c cs)
   where
-    Split : List (List ℕ) → Type 0
-    Split ls = ls ≡ getD ls 0 [] ∷ textLines (drop (length (getD ls 0 [])) (b ∷ c ∷ cs))
-
-    go : (x : Bool) → textLines (c ∷ cs) ≡ firstLine (c ∷ cs) ∷ textLines (drop (lineLength (c ∷ cs)) (c ∷ cs))
-        → Split (cond x ((b ∷ []) ∷ textLines (c ∷ cs)) (inFront b (textLines (c ∷ cs))))
+    go : (x : Bool) → Splits (c ∷ cs) (textLines (c ∷ cs)) → Splits (b ∷ c ∷ cs) (cond x ((b ∷ []) ∷ textLines (c ∷ cs)) (inFront b (textLines (c ∷ cs))))
     go true later = refl
-    go false later = subst (λ (ls : List (List ℕ)). Split (inFront b ls)) (sym later) refl
+    go false later = subst (λ (ls : List (List ℕ)). Splits (b ∷ c ∷ cs) (inFront b ls)) (sym later) refl
 
 first-some : (b : ℕ) (bs : List ℕ) → 1 ≤ lineLength (b ∷ bs)
 first-some b bs = go (eqb b newline) refl
@@ -90,15 +89,21 @@ border-first : (bs : List ℕ) → formBorder (firstLine bs) ≡ formBorder bs
 unfolding bytes all
 border-first bs = λ i. begins-first (keyText Place.Form) bs tt i || begins-first (keyText Place.Main) bs tt i
 
--- and in the code by its two words
-module _ (bs : List ℕ) {r : Bool} (e : r ≡ begins (102 ∷ 111 ∷ 114 ∷ 109 ∷ 61 ∷ []) bs) where
+-- and in the code by its two words, `form=` and `main=`
+abbrev formWord : List ℕ
+formWord = 102 ∷ 111 ∷ 114 ∷ 109 ∷ 61 ∷ []
+
+abbrev mainWord : List ℕ
+mainWord = 109 ∷ 97 ∷ 105 ∷ 110 ∷ 61 ∷ []
+
+module _ (bs : List ℕ) {r : Bool} (e : r ≡ begins formWord bs) where
   pub is-form : r ≡ true → true ≡ formBorder bs
   unfolding bytes
-  is-form t = sym (ap (λ (x : Bool). x || begins (109 ∷ 97 ∷ 105 ∷ 110 ∷ 61 ∷ []) bs) (sym e ∙ t))
+  is-form t = sym (ap (λ (x : Bool). x || begins mainWord bs) (sym e ∙ t))
 
-  pub is-end : r ≡ false → {q : Bool} → q ≡ begins (109 ∷ 97 ∷ 105 ∷ 110 ∷ 61 ∷ []) bs → q ≡ formBorder bs
+  pub is-end : r ≡ false → {q : Bool} → q ≡ begins mainWord bs → q ≡ formBorder bs
   unfolding bytes
-  is-end t g = g ∙ sym (ap (λ (x : Bool). x || begins (109 ∷ 97 ∷ 105 ∷ 110 ∷ 61 ∷ []) bs) (sym e ∙ t))
+  is-end t g = g ∙ sym (ap (λ (x : Bool). x || begins mainWord bs) (sym e ∙ t))
 
 -- A WORD, BYTE BY BYTE
 

@@ -62,28 +62,28 @@ place-after text from n = omega arith
 
 -- border f of a text, and the next one from there on
 module _ (text : List ℕ) (f : ℕ) where
-  abbrev linesBefore : List (List ℕ)
-  linesBefore = beforeNth formBorder f (textLines text)
+  abbrev earlier : List (List ℕ)
+  earlier = beforeNth formBorder f (textLines text)
 
-  first-place : borderPlace text 0 f ≡ length (flatten linesBefore)
+  first-place : borderPlace text 0 f ≡ length (flatten earlier)
   unfolding borderPlace
   first-place = omega arith
 
-  rest-lines : textLines (drop (length (flatten linesBefore)) text) ≡ drop (length linesBefore) (textLines text)
+  rest-lines : textLines (drop (length (flatten earlier)) text) ≡ drop (length earlier) (textLines text)
   rest-lines =
       ap (λ (ls : List (List ℕ)). textLines (drop (length (flatten ls)) text)) (nth-front formBorder f (textLines text))
-      ∙ lines-after (length linesBefore) text
+      ∙ lines-after (length earlier) text
 
-  next-place : borderPlace text (length (flatten linesBefore)) 1 ≡ length (flatten linesBefore) + length (flatten (formLines f (textLines text)))
+  next-place : borderPlace text (length (flatten earlier)) 1 ≡ length (flatten earlier) + length (flatten (formLines f (textLines text)))
   unfolding borderPlace
   next-place =
-      ap (λ (ls : List (List ℕ)). length (flatten linesBefore) + length (flatten ls))
+      ap (λ (ls : List (List ℕ)). length (flatten earlier) + length (flatten ls))
       (ap (beforeNth formBorder 1) rest-lines ∙ sym (nth-from formBorder f (textLines text)))
 
   pub stretch-found : {start : ℕ} → start ≡ borderPlace text 0 f → {end : ℕ} → end ≡ borderPlace text start 1
       → FormReply.Lines start (end - start) ≡ formStretch f (textLines text)
   stretch-found {start} s {end} e =
-      let at : start ≡ length (flatten linesBefore) = s ∙ first-place in
-      let past : end ≡ length (flatten linesBefore) + length (flatten (formLines f (textLines text))) = e ∙ ap (λ (n : ℕ). borderPlace text n 1) at ∙ next-place in
+      let at : start ≡ length (flatten earlier) = s ∙ first-place in
+      let past : end ≡ length (flatten earlier) + length (flatten (formLines f (textLines text))) = e ∙ ap (λ (n : ℕ). borderPlace text n 1) at ∙ next-place in
       let long : end - start ≡ length (flatten (formLines f (textLines text))) = omega (arith, at, past) in
       λ i. FormReply.Lines (at i) (long i)

@@ -3,7 +3,7 @@ use Prim.Native.Nat.{ℕ}
 use Rattle.sheet_rules.specs.declared.FormReply.{FormReply}
 use Rattle.sheet_rules.specs.declared.Verdict.{Verdict}
 use Rattle.sheet_rules.specs.Answers.{numberOf, verdictNumber, verdictLine}
-use Rattle.sheet_rules.specs.Stretch.{replyNumber, replyLine, partStart, partLength}
+use Rattle.sheet_rules.specs.Stretch.{replyNumber, replyLine, stretchStart, stretchLength}
 use Rattle.type_rules.specs.declared.FitReply.{FitReply}
 use Rattle.machine_rules.specs.declared.RunReply.{RunReply}
 use Rattle.machine_rules.specs.Steps.{outcomeNumber}
@@ -48,4 +48,4 @@ reportResult (ReportReply.Refused r n) = countedResult (runResult (RunReply.Refu
 
 -- one form's lines: the refusal's number and line, and where the part of the text begins and how long it is (document 02, order 2)
 abbrev pub formResult : FormReply → FormResult
-formResult r = record { refusal = replyNumber r; line = replyLine r; start = partStart r; length = partLength r }
+formResult r = record { refusal = replyNumber r; line = replyLine r; start = stretchStart r; length = stretchLength r }

@@ -7,7 +7,7 @@ use mathlib.Core.List.{List, [], _∷_, map, flatten}
 use lib.ListN.{length, take}
 use Rattle.lists.specs.BeforeNth.{beforeNth}
 use Rattle.sheet_rules.specs.declared.FormReply.{FormReply}
-use Rattle.sheet_rules.specs.Stretch.{textLines, begins, formReply, replyNumber, replyLine, partStart, partLength}
+use Rattle.sheet_rules.specs.Stretch.{textLines, begins, formReply, replyNumber, replyLine, stretchStart, stretchLength}
 use Rattle.sheet_rules.specs.Samples.{textOf, withLine, P}
 use Rattle.sheet_rules.proofs.Opened.{reading}
 
@@ -61,7 +61,7 @@ cases =
     ∷ []
 
 abbrev numbers : FormReply → List ℕ
-numbers r = replyNumber r ∷ replyLine r ∷ partStart r ∷ partLength r ∷ []
+numbers r = replyNumber r ∷ replyLine r ∷ stretchStart r ∷ stretchLength r ∷ []
 
 pub all : map (λ c. numbers (formReply (c .text) (c .form))) cases ≡ map (λ c. c .wanted) cases
 unfolding reading textLines begins flatten beforeNth formReply

@@ -25,7 +25,7 @@ use Rattle.sheet_rules.specs.Lines.{Line, line}
 use Rattle.sheet_rules.specs.Sheet.{Row, Instr, new, call, get, put, copy, Part, init, body, Form, Sheet, noForm, formAt}
 use Rattle.sheet_rules.specs.Reading.{Meaning, readable, unreadable, meaning}
 use Rattle.sheet_rules.specs.Print.{kindNumber, memberWritten, rowsWritten, instrWritten, partWritten, partsWritten, keepWritten, formWritten, formsWritten, beforeForms, afterForms, sheetWritten, lineBytes, linesBytes, print}
-use Rattle.sheet_rules.specs.Stretch.{textLines, begins, formBorder, formLines, formStretch, formOn, formReply, partStart, partLength, linesBefore, linesAfter, Shows}
+use Rattle.sheet_rules.specs.Stretch.{textLines, begins, formBorder, formLines, formStretch, formOn, formReply, stretchStart, stretchLength, linesBefore, linesAfter, Shows}
 use Rattle.sheet_rules.proofs.PrintLaws.{forms-snoc}
 use Rattle.sheet_rules.proofs.RoundTrip.{readable-print}
 use Rattle.sheet_rules.proofs.TextLines.{text-lines, flatten-lines}
@@ -233,10 +233,10 @@ form-shown text f e = go (subst (Answered text f) e (answered text f))
     go (given s e h) = shown text s e f h
 
 -- and is a part of the text
-pub given-within : (text : List ℕ) (f : ℕ) → partStart (formReply text f) + partLength (formReply text f) ≤ length text
+pub given-within : (text : List ℕ) (f : ℕ) → stretchStart (formReply text f) + stretchLength (formReply text f) ≤ length text
 given-within text f = go (answered text f)
   where
-    go : {r : FormReply} → Answered text f r → partStart r + partLength r ≤ length text
+    go : {r : FormReply} → Answered text f r → stretchStart r + stretchLength r ≤ length text
     go turned-away = omega arith
     go (given s e h) =
         let own : List ℕ = linesBytes (formWritten (formAt s f)) in

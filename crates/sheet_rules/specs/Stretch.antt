@@ -68,14 +68,14 @@ replyLine (Lines start length) = 0
 replyLine (Refused r n) = n
 
 -- where the part that is given begins in the text; after a refusal it is the empty part at the text's start (order 2)
-abbrev pub partStart : FormReply → ℕ
-partStart (Lines start length) = start
-partStart (Refused r n) = 0
+abbrev pub stretchStart : FormReply → ℕ
+stretchStart (Lines start length) = start
+stretchStart (Refused r n) = 0
 
 -- how many bytes it has: none after a refusal (order 2)
-abbrev pub partLength : FormReply → ℕ
-partLength (Lines start length) = length
-partLength (Refused r n) = 0
+abbrev pub stretchLength : FormReply → ℕ
+stretchLength (Lines start length) = length
+stretchLength (Refused r n) = 0
 
 -- THE FORM THAT IT SHOWS
 

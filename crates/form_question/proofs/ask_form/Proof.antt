@@ -1,5 +1,5 @@
 use mathlib.Core.Path.{refl}
-use Rattle.form_question.proofs.FormLaws.{end-within, form-given}
+use Rattle.form_question.proofs.FormLaws.{end-within, form-asked}
 use native.Mathlib.Omega.{arith}
 use borrow.Author.Needs.{needs}
 use Rattle.form_question.proofs.ask_form.Statement.{statement}
@@ -12,7 +12,7 @@ part-result-end : tie.Need-part-result-end
 part-result-end c = let p = c .before .before .before .before in let a = p .before .before .before .before in end-within (a .args .text) (a .args .form) (p .ask-place .ensures) (c .before .form-result .ensures)
 
 returns : tie.Need-returns
-returns c = let p = c .before .before .before .before .before in let a = p .before .before .before .before in form-given (a .args .text) (a .args .form) (p .ask-place .ensures) (c .before .before .form-result .ensures) _ refl (omega arith) refl
+returns c = let p = c .before .before .before .before .before in let a = p .before .before .before .before in form-asked (a .args .text) (a .args .form) (p .ask-place .ensures) (c .before .before .form-result .ensures) _ refl (omega arith) refl
 
 pub ask-form-spec : {M : Type 1} → statement M
 ask-form-spec =
