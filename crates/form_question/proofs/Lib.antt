@@ -1,1 +1,2 @@
 pub mod FormLaws
+pub mod FormUsed

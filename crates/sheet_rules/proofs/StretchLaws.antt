@@ -19,7 +19,8 @@ use Rattle.sheet_rules.specs.declared.MemberKind.{MemberKind}
 use Rattle.sheet_rules.specs.declared.Operation.{Operation}
 use Rattle.sheet_rules.specs.declared.Place.{Place}
 use Rattle.sheet_rules.specs.declared.Reason.{Reason}
-use Rattle.sheet_rules.specs.declared.Reason.the-variants.{NotDefined}
+use Rattle.sheet_rules.specs.declared.Reason.the-variants.{BufferTooShort, TextTooLong, Malformed, OutOfLimit, NotAscending, DuplicateRow, NotDefined, ImpureForm, NoSuchMember, Misfit, NoHolder}
+use Rattle.sheet_rules.specs.Answers.{numberOf}
 use Rattle.sheet_rules.specs.Keys.{bytes, samePlace}
 use Rattle.sheet_rules.specs.Lines.{Line, line}
 use Rattle.sheet_rules.specs.Sheet.{Row, Instr, new, call, get, put, copy, Part, init, body, Form, Sheet, noForm, formAt}
@@ -117,6 +118,20 @@ sheet-before s n h =
     (forms-before n (s .forms) h (line Place.Main (length (s .main) ∷ [])) (map instrWritten (s .main)) (border-key Place.Main (length (s .main)) []))
 
 -- REFUSED
+
+-- no refusal has the number 0
+pub number-some : (r : Reason) → 1 ≤ numberOf r
+number-some BufferTooShort = omega arith
+number-some TextTooLong = omega arith
+number-some Malformed = omega arith
+number-some OutOfLimit = omega arith
+number-some NotAscending = omega arith
+number-some DuplicateRow = omega arith
+number-some NotDefined = omega arith
+number-some ImpureForm = omega arith
+number-some NoSuchMember = omega arith
+number-some Misfit = omega arith
+number-some NoHolder = omega arith
 
 module _ (text : List ℕ) (f : ℕ) where
   pub refused-read : {r : Reason} {n : ℕ} → meaning text ≡ unreadable r n → formReply text f ≡ Refused r n
