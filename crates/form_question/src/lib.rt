@@ -25,6 +25,7 @@ fn place_in(text: &[u8], form: usize, work: &[u16]) -> FormReply
         };
     }
     let start = find_border(text, 0, form);
+    // From there on the form's own border is number 0, and the next one number 1.
     let end = find_border(text, start, 1);
     FormReply::Lines {
         start,

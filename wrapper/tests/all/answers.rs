@@ -60,7 +60,11 @@ fn two_makers_hold_together_what_either_holds() {
 #[test]
 fn the_clerk_s_forms_are_parts_of_the_caller_s_text() {
     let mut work = Work::new();
-    let lines = ["form=0,0\n", "form=1,0\nbody=1\ncopy=1\n"];
+    let lines = [
+        "form=0,0\n",
+        "form=1,0\nbody=1\ncopy=1\n",
+        "form=2,1\nkeep=1\nbody=1\ncall=2,1,1\n",
+    ];
     let mut start = 63;
     for (number, lines) in lines.into_iter().enumerate() {
         let part = form(CLERK, number, &mut work).expect("a form of the sheet");
