@@ -5,13 +5,12 @@ use mathlib.Core.Path.{_≡_, sym, ap, _∙_}
 use mathlib.Core.Bool.{Bool, true, false, cond}
 use mathlib.Core.List.{List, []}
 use lib.ListN.{length, take, drop}
-use borrow.Author.Tests.{lt-ltb, le-ltb}
 use denote.Ref.{RefT}
 use Rattle.sheet_rules.specs.declared.FormReply.{FormReply}
 use Rattle.sheet_rules.specs.declared.Reason.the-variants.{BufferTooShort, NotDefined}
 use Rattle.sheet_rules.specs.Sheet.{Sheet}
-use Rattle.sheet_rules.specs.Stretch.{textLines, formStretch, formIn, formReply, stretchStart, stretchLength}
-use Rattle.sheet_rules.proofs.StretchLaws.{given-within}
+use Rattle.sheet_rules.specs.Stretch.{formIn, formReply, stretchStart, stretchLength}
+use Rattle.sheet_rules.proofs.StretchLaws.{there-in, missing-in, given-within}
 use Rattle.question.specs.Asked.{enough}
 use Rattle.form_scan.specs.Borders.{borderPlace}
 use Rattle.form_scan.proofs.StretchFound.{stretch-found}
@@ -22,17 +21,12 @@ use Rattle.form_question.specs.Asked.{PlaceAsked, replyIn, FormAsked}
 -- over the table
 
 module _ (text : List ℕ) (s : Sheet) (f : ℕ) {forms : ℕ} (counted : forms ≡ length (s .forms)) where
-  answer : Bool → FormReply
-  answer b = cond b (formStretch f (textLines text)) (FormReply.Refused NotDefined 0)
-
   pub form-missing : forms ≤ f → FormReply.Refused NotDefined 0 ≡ formIn text s f
-  unfolding answer
-  form-missing h = sym (ap answer (le-ltb f (length (s .forms)) (omega arith)))
+  form-missing h = sym (missing-in text s f (omega arith))
 
   pub form-found : f < forms → {start : ℕ} → start ≡ borderPlace text 0 f → {end : ℕ} → end ≡ borderPlace text start 1
       → FormReply.Lines start (end - start) ≡ formIn text s f
-  unfolding answer
-  form-found h a e = stretch-found text f a e ∙ sym (ap answer (lt-ltb f (length (s .forms)) (omega arith)))
+  form-found h a e = stretch-found text f a e ∙ sym (there-in text s f (omega arith))
 
 -- what is answered is a part of the text, in whatever buffer
 

@@ -6,11 +6,7 @@ use mathlib.Core.Bool.{Bool, true, false, cond}
 use mathlib.Core.List.{List, [], _∷_, _++_, map}
 use lib.ListN.{length, take, drop}
 use Rattle.lists.specs.BeforeNth.{beforeNth}
-
--- no element passes
-pub data NonePass {A : Type 0} (test : A → Bool) : List A → Type 0 where
-  no-element : NonePass test []
-  another : {x : A} {xs : List A} → test x ≡ false → NonePass test xs → NonePass test (x ∷ xs)
+use Rattle.lists.specs.Each.{Each, none, each}
 
 module _ {A : Type 0} (test : A → Bool) where
   -- the n-th is here
@@ -61,17 +57,10 @@ module _ {A : Type 0} (test : A → Bool) where
       go true a b = a
       go false a b = b
 
-  pub nth-none : (n : ℕ) {xs : List A} → NonePass test xs → (ys : List A) → beforeNth test n (xs ++ ys) ≡ xs ++ beforeNth test n ys
-  nth-none n no-element ys = refl
-  nth-none n (another {x} {xs} e none) ys = nth-other n (xs ++ ys) e ∙ ap (λ (zs : List A). x ∷ zs) (nth-none n none ys)
-
-  pub none-both : {xs ys : List A} → NonePass test xs → NonePass test ys → NonePass test (xs ++ ys)
-  none-both no-element more = more
-  none-both (another e none) more = another e (none-both none more)
-
-  pub none-map : {B : Type 0} (f : B → A) → ((y : B) → test (f y) ≡ false) → (ys : List B) → NonePass test (map f ys)
-  none-map f h [] = no-element
-  none-map f h (y ∷ ys) = another (h y) (none-map f h ys)
+  -- none passes of those before
+  pub nth-none : (n : ℕ) {xs : List A} → Each (λ x. test x ≡ false) xs → (ys : List A) → beforeNth test n (xs ++ ys) ≡ xs ++ beforeNth test n ys
+  nth-none n none ys = refl
+  nth-none n (each {x} {xs} e more) ys = nth-other n (xs ++ ys) e ∙ ap (λ (zs : List A). x ∷ zs) (nth-none n more ys)
 
 -- elements that a function makes
 pub nth-map : {A B : Type 0} (test : B → Bool) (f : A → B) (n : ℕ) (xs : List A)

@@ -7,3 +7,4 @@ pub mod ContainsLaws
 pub mod AnyAllLaws
 pub mod PassingLaws
 pub mod BeforeNthLaws
+pub mod EachLaws

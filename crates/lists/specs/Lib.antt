@@ -6,3 +6,4 @@ pub mod Contains
 pub mod AnyAll
 pub mod Passing
 pub mod BeforeNth
+pub mod Each

@@ -2,8 +2,9 @@
 use Prim.Native.Nat.{ℕ}
 use mathlib.Core.Path.{_≡_, refl, sym, ap, _∙_, subst}
 use mathlib.Core.Bool.{Bool, true, false, cond, not}
-use mathlib.Core.List.{List, [], _∷_, _++_, append-assoc, append-nil}
+use mathlib.Core.List.{List, [], _∷_, _++_, append-assoc, append-nil, flatten}
 use lib.Dec.{T}
+use Rattle.lists.specs.Each.{Each, each}
 use Rattle.lists.proofs.Tests.{and-left, and-right}
 use Rattle.sheet_rules.specs.declared.Place.{Place}
 use Rattle.sheet_rules.specs.declared.Place.the-variants.{Nowhere}
@@ -17,13 +18,13 @@ use Rattle.sheet_rules.proofs.PrintBytes.{joinOn, join-split, spelled-a
 abbrev pub hasKey : Place → Bool
 hasKey k = not (samePlace k Nowhere)
 
--- a line with a key and a number
-pub data Proper : Line → Type 0 where
-  proper : {k : Place} {n : ℕ} {ns : List ℕ} → T (hasKey k) → Proper (line k (n ∷ ns))
+-- a line with a number, and with a key whose place passes a test
+pub data Standing (test : Place → Bool) : Line → Type 0 where
+  standing : {k : Place} {n : ℕ} {ns : List ℕ} → T (test k) → Standing test (line k (n ∷ ns))
 
-pub data AllProper : List Line → Type 0 where
-  no-line : AllProper []
-  a-line : {l : Line} {ls : List Line} → Proper l → AllProper ls → AllProper (l ∷ ls)
+-- a line with a key and a number
+abbrev pub Proper : Line → Type 0
+Proper l = Standing hasKey l
 
 -- decimals with commas between them are the numbers' own
 further-back : (qs : List (List ℕ)) (q : List ℕ) → T (allDecimals (q ∷ qs)) → joinOn comma (q ∷ qs) ≡ decimal (valueOf q) ++ further (values qs)
@@ -36,7 +37,7 @@ further-back (r ∷ rs) q t =
 written : (w q : List ℕ) (qs : List (List ℕ)) → Proper (line (placeOf w) (values (q ∷ qs))) → T (allDecimals (q ∷ qs))
     → w ++ (equals ∷ (joinOn comma (q ∷ qs) ++ (newline ∷ []))) ≡ lineBytes (line (placeOf w) (values (q ∷ qs)))
 unfolding values lineBytes
-written w q qs (proper known) t =
+written w q qs (standing known) t =
     (λ i. sym (spelled-among allPlaces w (λ e. subst (λ (k : Place). T (hasKey k)) e known)) i ++ (equals ∷ (further-back qs q t i ++ (newline ∷ []))))
     ∙ ap (λ (z : List ℕ). spelling (placeOf w) ++ (equals ∷ z)) (append-assoc (decimal (valueOf q)) (further (values qs)) (newline ∷ []))
     ∙ sym (append-assoc (spelling (placeOf w)) (equals ∷ []) (decimal (valueOf q) ++ (further (values qs) ++ (newline ∷ []))))
@@ -75,15 +76,15 @@ unfolding lineOf
 line-back bs p = ap (λ (z : List ℕ). z ++ (newline ∷ [])) (sym (join-split equals bs)) ∙ keyed-back (splitOn equals bs) p
 
 -- the pieces between bytes 10
-finished-back : (ps : List (List ℕ)) → AllProper (finished ps) → joinOn newline ps ≡ linesBytes (finished ps)
-unfolding finished joinOn linesBytes
+finished-back : (ps : List (List ℕ)) → Each Proper (finished ps) → joinOn newline ps ≡ linesBytes (finished ps)
+unfolding finished joinOn flatten
 finished-back [] a = refl
 finished-back ([] ∷ []) a = refl
-finished-back ((b ∷ bs) ∷ []) (a-line p a) = elim p [ ]
-finished-back (p ∷ q ∷ ps) (a-line h a) =
+finished-back ((b ∷ bs) ∷ []) (each p a) = elim p [ ]
+finished-back (p ∷ q ∷ ps) (each h a) =
     sym (append-assoc p (newline ∷ []) (joinOn newline (q ∷ ps)))
     ∙ (λ i. line-back p h i ++ finished-back (q ∷ ps) a i)
 
-pub lines-back : (text : List ℕ) → AllProper (linesOf text) → text ≡ linesBytes (linesOf text)
+pub lines-back : (text : List ℕ) → Each Proper (linesOf text) → text ≡ linesBytes (linesOf text)
 unfolding linesOf
 lines-back text a = sym (join-split newline text) ∙ finished-back (splitOn newline text) a

@@ -1,68 +1,88 @@
 -- A text that reads as a sheet is that sheet's print: reading loses nothing. Assumes nothing.
 use Prim.Native.Nat.{ℕ}
 use mathlib.Core.Path.{_≡_, sym, ap, _∙_, subst}
-use mathlib.Core.Bool.{Bool, true, false, cond}
+use mathlib.Core.Bool.{Bool, true, false, cond, not, _&&_, _||_}
 use mathlib.Core.List.{List, [], _∷_, _++_, map}
 use lib.Dec.{leb}
 use lib.ListN.{length}
-use Rattle.lists.proofs.Tests.{clash}
+use Rattle.lists.specs.Each.{Each, none, each}
+use Rattle.lists.proofs.EachLaws.{each-both, each-map, each-follows}
+use Rattle.lists.proofs.Tests.{clash, and-left}
 use Rattle.sheet_rules.specs.declared.Member.{Member}
 use Rattle.sheet_rules.specs.declared.Member.the-variants.{Method, Field}
+use Rattle.sheet_rules.specs.declared.Place.{Place}
 use Rattle.sheet_rules.specs.declared.Reason.the-variants.{TextTooLong}
 use Rattle.sheet_rules.specs.Limits.{textLimit}
-use Rattle.sheet_rules.specs.Lines.{Line, linesOf}
+use Rattle.sheet_rules.specs.Keys.{samePlace}
+use Rattle.sheet_rules.specs.Lines.{Line, line, linesOf}
 use Rattle.sheet_rules.specs.Sheet.{Row, Instr, new, call, get, put, copy, Part, init, body, Form, Sheet}
 use Rattle.sheet_rules.specs.Reading.{readSheet, readable, unreadable, conclude, meaning}
-use Rattle.sheet_rules.specs.Print.{memberWritten, rowsWritten, instrWritten, partWritten, partsWritten, keepWritten, formsWritten, sheetWritten, linesBytes, print}
-use Rattle.sheet_rules.proofs.PrintLines.{Proper, proper, AllProper, no-line, a-line, lines-back}
+use Rattle.sheet_rules.specs.Print.{memberWritten, rowsWritten, instrWritten, partWritten, partsWritten, keepWritten, formsWritten, beforeForms, sheetWritten, linesBytes, print}
+use Rattle.sheet_rules.proofs.PrintLines.{hasKey, Standing, standing, Proper, lines-back}
 use Rattle.sheet_rules.proofs.PrintLaws.{lines-written}
 
 -- EVERY LINE OF A SHEET HAS A KEY AND A NUMBER
 
-proper-both : {ls ms : List Line} → AllProper ls → AllProper ms → AllProper (ls ++ ms)
-proper-both no-line b = b
-proper-both (a-line p a) b = a-line p (proper-both a b)
+-- the place of a line at which a form's lines begin, or before which the forms end
+abbrev pub isBorder : Place → Bool
+isBorder k = samePlace k Place.Form || samePlace k Place.Main
 
-proper-map : {A : Type 0} (f : A → Line) → ((x : A) → Proper (f x)) → (xs : List A) → AllProper (map f xs)
-proper-map f h [] = no-line
-proper-map f h (x ∷ xs) = a-line (h x) (proper-map f h xs)
+-- the place of any other key
+abbrev pub isInner : Place → Bool
+isInner k = hasKey k && not (isBorder k)
 
-member-proper : (m : Member) → Proper (memberWritten m)
-member-proper (Method n a r) = proper tt
-member-proper (Field n r) = proper tt
+-- a line of such a place, with a number
+abbrev pub Inner : Line → Type 0
+Inner l = Standing isInner l
 
-instr-proper : (i : Instr) → Proper (instrWritten i)
-instr-proper (new f ss) = proper tt
-instr-proper (call o n a) = proper tt
-instr-proper (get n) = proper tt
-instr-proper (put n v) = proper tt
-instr-proper (copy v) = proper tt
+inner-proper : (l : Line) → Inner l → Proper l
+inner-proper (line k (n ∷ ns)) (standing t) = standing (and-left (hasKey k) (not (isBorder k)) t)
 
-rows-proper : (rows : List Row) → AllProper (rowsWritten rows)
+member-inner : (m : Member) → Inner (memberWritten m)
+member-inner (Method n a r) = standing tt
+member-inner (Field n r) = standing tt
+
+instr-inner : (i : Instr) → Inner (instrWritten i)
+instr-inner (new f ss) = standing tt
+instr-inner (call o n a) = standing tt
+instr-inner (get n) = standing tt
+instr-inner (put n v) = standing tt
+instr-inner (copy v) = standing tt
+
+rows-inner : (rows : List Row) → Each Inner (rowsWritten rows)
 unfolding rowsWritten
-rows-proper [] = no-line
-rows-proper (a ∷ bs) = a-line (proper tt) (proper-both (proper-map memberWritten member-proper (a .members)) (rows-proper bs))
+rows-inner [] = none
+rows-inner (a ∷ bs) = each (standing tt) (each-both (each-map memberWritten member-inner (a .members)) (rows-inner bs))
 
-part-proper : (p : Part) → AllProper (partWritten p)
-part-proper (init k) = a-line (proper tt) no-line
-part-proper (body is) = a-line (proper tt) (proper-map instrWritten instr-proper is)
+part-inner : (p : Part) → Each Inner (partWritten p)
+part-inner (init k) = each (standing tt) none
+part-inner (body is) = each (standing tt) (each-map instrWritten instr-inner is)
 
-parts-proper : (ps : List Part) → AllProper (partsWritten ps)
+parts-inner : (ps : List Part) → Each Inner (partsWritten ps)
 unfolding partsWritten
-parts-proper [] = no-line
-parts-proper (p ∷ ps) = proper-both (part-proper p) (parts-proper ps)
+parts-inner [] = none
+parts-inner (p ∷ ps) = each-both (part-inner p) (parts-inner ps)
 
-forms-proper : (fs : List Form) → AllProper (formsWritten fs)
+-- the lines before the forms
+pub before-inner : (s : Sheet) → Each Inner (beforeForms s)
+before-inner s = each (standing tt) (each-both (rows-inner (s .rows)) (each (standing tt) none))
+
+-- the lines of a form after its first
+abbrev pub afterFirst : Form → List Line
+afterFirst f = map keepWritten (f .keeps) ++ partsWritten (f .parts)
+
+pub form-inner : (f : Form) → Each Inner (afterFirst f)
+form-inner f = each-both (each-map keepWritten (λ b. standing tt) (f .keeps)) (parts-inner (f .parts))
+
+forms-proper : (fs : List Form) → Each Proper (formsWritten fs)
 unfolding formsWritten
-forms-proper [] = no-line
-forms-proper (f ∷ fs) =
-    a-line (proper tt)
-    (proper-both (proper-both (proper-map keepWritten (λ b. proper tt) (f .keeps)) (parts-proper (f .parts))) (forms-proper fs))
+forms-proper [] = none
+forms-proper (f ∷ fs) = each (standing tt) (each-both (each-follows inner-proper (form-inner f)) (forms-proper fs))
 
-pub sheet-proper : (s : Sheet) → AllProper (sheetWritten s)
+pub sheet-proper : (s : Sheet) → Each Proper (sheetWritten s)
 sheet-proper s =
-    proper-both (a-line (proper tt) (proper-both (rows-proper (s .rows)) (a-line (proper tt) no-line)))
-    (proper-both (forms-proper (s .forms)) (a-line (proper tt) (proper-map instrWritten instr-proper (s .main))))
+    each-both (each-follows inner-proper (before-inner s))
+    (each-both (forms-proper (s .forms)) (each (standing tt) (each-follows inner-proper (each-map instrWritten instr-inner (s .main)))))
 
 -- THE ROUND TRIP
 
@@ -80,4 +100,4 @@ pub readable-print : (text : List ℕ) (s : Sheet) → meaning text ≡ readable
 unfolding print
 readable-print text s e =
     let l = readable-lines text s e in
-    lines-back text (subst AllProper (sym l) (sheet-proper s)) ∙ ap linesBytes l
+    lines-back text (subst (Each Proper) (sym l) (sheet-proper s)) ∙ ap linesBytes l

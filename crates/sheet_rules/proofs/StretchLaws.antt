@@ -4,32 +4,33 @@ use Prim.Native.Nat.{ℕ, zero, suc, _+_, _≤_, _<_}
 use native.Mathlib.Omega.{arith}
 use native.Mathlib.Decide.{decLt}
 use mathlib.Core.Path.{_≡_, refl, sym, ap, _∙_, subst}
-use mathlib.Core.Bool.{Bool, true, false, cond, _||_}
+use mathlib.Core.Bool.{Bool, true, false, cond, not}
 use mathlib.Core.List.{List, [], _∷_, _++_, map, map-append, append-assoc, flatten}
 use lib.ListN.{length, getD, take, drop, length-append}
 use lib.Seq.{take-suc, take-append-seam, drop-append-seam, drop-drop}
-use borrow.Author.Tests.{lt-ltb, le-ltb}
+use borrow.Author.Tests.{lt-ltb, le-ltb, not-true}
 use Rattle.lists.specs.BeforeNth.{beforeNth}
-use Rattle.lists.proofs.BeforeNthLaws.{NonePass, no-element, another, nth-here, nth-later, nth-none, nth-map, none-both, none-map}
+use Rattle.lists.proofs.BeforeNthLaws.{nth-here, nth-later, nth-none, nth-map}
+use Rattle.lists.proofs.EachLaws.{each-follows}
+use Rattle.lists.proofs.Tests.{and-right, T→true}
 use Rattle.sheet_rules.specs.declared.FormReply.{FormReply}
 use Rattle.sheet_rules.specs.declared.FormReply.the-variants.{Lines, Refused}
-use Rattle.sheet_rules.specs.declared.Member.{Member}
-use Rattle.sheet_rules.specs.declared.Member.the-variants.{Method, Field}
 use Rattle.sheet_rules.specs.declared.MemberKind.{MemberKind}
 use Rattle.sheet_rules.specs.declared.Operation.{Operation}
 use Rattle.sheet_rules.specs.declared.Place.{Place}
 use Rattle.sheet_rules.specs.declared.Reason.{Reason}
 use Rattle.sheet_rules.specs.declared.Reason.the-variants.{BufferTooShort, TextTooLong, Malformed, OutOfLimit, NotAscending, DuplicateRow, NotDefined, ImpureForm, NoSuchMember, Misfit, NoHolder}
 use Rattle.sheet_rules.specs.Answers.{numberOf}
-use Rattle.sheet_rules.specs.Keys.{bytes, samePlace}
+use Rattle.sheet_rules.specs.Keys.{bytes}
 use Rattle.sheet_rules.specs.Lines.{Line, line}
-use Rattle.sheet_rules.specs.Sheet.{Row, Instr, new, call, get, put, copy, Part, init, body, Form, Sheet, noForm, formAt}
+use Rattle.sheet_rules.specs.Sheet.{Form, Sheet, noForm, formAt}
 use Rattle.sheet_rules.specs.Reading.{Meaning, readable, unreadable, meaning}
-use Rattle.sheet_rules.specs.Print.{kindNumber, memberWritten, rowsWritten, instrWritten, partWritten, partsWritten, keepWritten, formWritten, formsWritten, beforeForms, afterForms, sheetWritten, lineBytes, linesBytes, print}
-use Rattle.sheet_rules.specs.Stretch.{textLines, begins, formBorder, formLines, formStretch, formOn, formReply, stretchStart, stretchLength, linesBefore, linesAfter, Shows}
+use Rattle.sheet_rules.specs.Print.{instrWritten, formWritten, formsWritten, beforeForms, afterForms, sheetWritten, lineBytes, linesBytes, print}
+use Rattle.sheet_rules.specs.Stretch.{textLines, begins, formBorder, formLines, formStretch, formIn, formOn, formReply, stretchStart, stretchLength, linesBefore, linesAfter, Shows}
+use Rattle.sheet_rules.proofs.PrintLines.{hasKey, standing}
 use Rattle.sheet_rules.proofs.PrintLaws.{forms-snoc}
-use Rattle.sheet_rules.proofs.RoundTrip.{readable-print}
-use Rattle.sheet_rules.proofs.TextLines.{text-lines, flatten-lines}
+use Rattle.sheet_rules.proofs.RoundTrip.{isBorder, Inner, before-inner, afterFirst, form-inner, readable-print}
+use Rattle.sheet_rules.proofs.TextLines.{text-lines}
 
 -- a line of a sheet that is a border
 abbrev border : Line → Bool
@@ -37,7 +38,7 @@ border l = formBorder (lineBytes l)
 
 -- THE BORDERS OF A SHEET ARE ITS `form` LINES AND `main`
 
-border-key : (k : Place) (n : ℕ) (ns : List ℕ) → border (line k (n ∷ ns)) ≡ (samePlace k Place.Form || samePlace k Place.Main)
+border-key : (k : Place) (n : ℕ) (ns : List ℕ) → border (line k (n ∷ ns)) ≡ isBorder k
 unfolding lineBytes bytes begins
 border-key Place.Types n ns = refl
 border-key Place.Row n ns = refl
@@ -56,37 +57,9 @@ border-key (Place.Instruction Operation.Put) n ns = refl
 border-key (Place.Instruction Operation.Copy) n ns = refl
 border-key Place.Nowhere n ns = refl
 
-member-within : (m : Member) → border (memberWritten m) ≡ false
-member-within (Method n a r) = border-key (Place.Member MemberKind.Method) n (a ∷ r ∷ [])
-member-within (Field n r) = border-key (Place.Member MemberKind.Field) n (r ∷ [])
-
-instr-within : (i : Instr) → border (instrWritten i) ≡ false
-instr-within (new f ss) = border-key (Place.Instruction Operation.New) f ss
-instr-within (call o n a) = border-key (Place.Instruction Operation.Call) o (n ∷ a ∷ [])
-instr-within (get n) = border-key (Place.Instruction Operation.Get) n []
-instr-within (put n v) = border-key (Place.Instruction Operation.Put) n (v ∷ [])
-instr-within (copy v) = border-key (Place.Instruction Operation.Copy) v []
-
-rows-within : (rows : List Row) → NonePass border (rowsWritten rows)
-unfolding rowsWritten
-rows-within [] = no-element
-rows-within (a ∷ bs) = another (border-key Place.Row (kindNumber (a .kind)) (length (a .members) ∷ [])) (none-both border (none-map border memberWritten member-within (a .members)) (rows-within bs))
-
-part-within : (p : Part) → NonePass border (partWritten p)
-part-within (init k) = another (border-key Place.Init k []) no-element
-part-within (body is) = another (border-key Place.Body (length is) []) (none-map border instrWritten instr-within is)
-
-parts-within : (ps : List Part) → NonePass border (partsWritten ps)
-unfolding partsWritten
-parts-within [] = no-element
-parts-within (p ∷ ps) = none-both border (part-within p) (parts-within ps)
-
--- the lines of a form after its first
-abbrev afterFirst : Form → List Line
-afterFirst f = map keepWritten (f .keeps) ++ partsWritten (f .parts)
-
-form-within : (f : Form) → NonePass border (afterFirst f)
-form-within f = none-both border (none-map border keepWritten (λ b. border-key Place.Keep b []) (f .keeps)) (parts-within (f .parts))
+inner-border : (l : Line) → Inner l → border l ≡ false
+inner-border (line k (n ∷ ns)) (standing t) =
+    border-key k n ns ∙ not-true (isBorder k) (T→true (not (isBorder k)) (and-right (hasKey k) (not (isBorder k)) t))
 
 form-border : (f : Form) → border (line Place.Form (f .row ∷ length (f .keeps) ∷ [])) ≡ true
 form-border f = border-key Place.Form (f .row) (length (f .keeps) ∷ [])
@@ -104,16 +77,13 @@ forms-before (suc n) (f ∷ fs) h l ls e =
     nth-later border n ((afterFirst f ++ formsWritten fs) ++ (l ∷ ls)) (form-border f)
     ∙ ap (λ (zs : List Line). line Place.Form (f .row ∷ length (f .keeps) ∷ []) ∷ zs)
     (ap (beforeNth border n) (append-assoc (afterFirst f) (formsWritten fs) (l ∷ ls))
-    ∙ nth-none border n (form-within f) (formsWritten fs ++ (l ∷ ls))
+    ∙ nth-none border n (each-follows inner-border (form-inner f)) (formsWritten fs ++ (l ∷ ls))
     ∙ ap (λ (zs : List Line). afterFirst f ++ zs) (forms-before n fs (omega arith) l ls e))
 
 sheet-before : (s : Sheet) (n : ℕ) → n ≤ length (s .forms)
     → beforeNth border n (sheetWritten s) ≡ beforeForms s ++ formsWritten (take n (s .forms))
 sheet-before s n h =
-    nth-none border n
-    (another (border-key Place.Types (length (s .rows)) [])
-    (none-both border (rows-within (s .rows)) (another (border-key Place.Forms (length (s .forms)) []) no-element)))
-    (formsWritten (s .forms) ++ afterForms s)
+    nth-none border n (each-follows inner-border (before-inner s)) (formsWritten (s .forms) ++ afterForms s)
     ∙ ap (λ (zs : List Line). beforeForms s ++ zs)
     (forms-before n (s .forms) h (line Place.Main (length (s .main) ∷ [])) (map instrWritten (s .main)) (border-key Place.Main (length (s .main)) []))
 
@@ -133,6 +103,14 @@ number-some NoSuchMember = omega arith
 number-some Misfit = omega arith
 number-some NoHolder = omega arith
 
+-- in a sheet: the form is there, or not
+module _ (text : List ℕ) (s : Sheet) (f : ℕ) where
+  pub there-in : f < length (s .forms) → formIn text s f ≡ formStretch f (textLines text)
+  there-in h = ap (λ (b : Bool). cond b (formStretch f (textLines text)) (Refused NotDefined 0)) (lt-ltb f (length (s .forms)) h)
+
+  pub missing-in : length (s .forms) ≤ f → formIn text s f ≡ Refused NotDefined 0
+  missing-in h = ap (λ (b : Bool). cond b (formStretch f (textLines text)) (Refused NotDefined 0)) (le-ltb f (length (s .forms)) h)
+
 module _ (text : List ℕ) (f : ℕ) where
   pub refused-read : {r : Reason} {n : ℕ} → meaning text ≡ unreadable r n → formReply text f ≡ Refused r n
   unfolding formReply
@@ -140,9 +118,7 @@ module _ (text : List ℕ) (f : ℕ) where
 
   pub missing-form : {s : Sheet} → meaning text ≡ readable s → length (s .forms) ≤ f → formReply text f ≡ Refused NotDefined 0
   unfolding formReply
-  missing-form {s} e h =
-      ap (λ (m : Meaning). formOn text m f) e
-      ∙ ap (λ (b : Bool). cond b (formStretch f (textLines text)) (Refused NotDefined 0)) (le-ltb f (length (s .forms)) h)
+  missing-form {s} e h = ap (λ (m : Meaning). formOn text m f) e ∙ missing-in text s f h
 
 -- THE STRETCH
 
@@ -156,7 +132,7 @@ forms-split (suc f) (g ∷ gs) h =
     ∙ sym (append-assoc (formWritten g) (formsWritten (take f gs)) (formWritten (getD gs f noForm) ++ formsWritten (drop (suc f) gs)))
 
 lines-both : (ls ms : List Line) → linesBytes (ls ++ ms) ≡ linesBytes ls ++ linesBytes ms
-unfolding linesBytes
+unfolding flatten
 lines-both [] ms = refl
 lines-both (l ∷ ls) ms =
     ap (λ (zs : List ℕ). lineBytes l ++ zs) (lines-both ls ms)
@@ -199,11 +175,8 @@ module _ (text : List ℕ) (s : Sheet) (e : meaning text ≡ readable s) where
     pub form-given : formReply text f ≡ Lines (length (linesBytes (linesBefore s f))) (length (linesBytes (formWritten (formAt s f))))
     unfolding formReply
     form-given =
-        ap (λ (m : Meaning). formOn text m f) e
-        ∙ ap (λ (b : Bool). cond b (formStretch f (textLines text)) (Refused NotDefined 0)) (lt-ltb f (length (s .forms)) h)
-        ∙ (λ i. Lines
-        (length ((ap flatten (text-before f (omega arith)) ∙ flatten-lines (linesBefore s f)) i))
-        (length ((ap flatten text-own ∙ flatten-lines (formWritten (formAt s f))) i)))
+        ap (λ (m : Meaning). formOn text m f) e ∙ there-in text s f h
+        ∙ (λ i. Lines (length (flatten (text-before f (omega arith) i))) (length (flatten (text-own i))))
 
     shown : Shows text f (length (linesBytes (linesBefore s f))) (length (linesBytes (formWritten (formAt s f))))
     shown =

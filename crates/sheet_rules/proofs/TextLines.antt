@@ -1,18 +1,18 @@
--- The lines of a text as they stand in it: joined they are the text, and those of a text that reads as a sheet are the sheet's own.
+-- The lines of a text as they stand in it: those of a text that reads as a sheet are the sheet's own, as they are written.
 -- Assumes nothing.
 use Prim.Native.Nat.{ℕ}
 use mathlib.Core.Path.{_≡_, refl, sym, ap, _∙_, subst}
 use mathlib.Core.Bool.{Bool, true, false, cond}
-use mathlib.Core.List.{List, [], _∷_, _++_, map, flatten}
+use mathlib.Core.List.{List, [], _∷_, _++_, map}
 use lib.Dec.{T, eqb, eqb→eq}
+use Rattle.lists.specs.Each.{Each, each}
 use Rattle.sheet_rules.specs.Lines.{newline, inFront, splitStep, splitOn, finished, linesOf}
 use Rattle.sheet_rules.specs.Sheet.{Sheet}
 use Rattle.sheet_rules.specs.Reading.{readable, meaning}
-use Rattle.sheet_rules.specs.Print.{lineBytes, linesBytes, sheetWritten}
+use Rattle.sheet_rules.specs.Print.{lineBytes, sheetWritten}
 use Rattle.sheet_rules.specs.Stretch.{textLines}
-use Rattle.sheet_rules.specs.Lines.{Line}
 use Rattle.sheet_rules.proofs.PrintBytes.{pieces}
-use Rattle.sheet_rules.proofs.PrintLines.{AllProper, a-line, line-back}
+use Rattle.sheet_rules.proofs.PrintLines.{Proper, line-back}
 use Rattle.sheet_rules.proofs.RoundTrip.{sheet-proper, readable-lines}
 
 -- the pieces that a byte 10 ends, each with it, and what follows the last
@@ -44,12 +44,12 @@ text-ended (b ∷ bs) = go (pieces newline bs .first) (pieces newline bs .more) 
         ∙ sym (λ i. ended (cond (q i) ([] ∷ e i) (inFront b (e i))))
 
 -- where every line is in the sheet's shape
-ended-back : (ps : List (List ℕ)) → AllProper (finished ps) → ended ps ≡ map lineBytes (finished ps)
+ended-back : (ps : List (List ℕ)) → Each Proper (finished ps) → ended ps ≡ map lineBytes (finished ps)
 unfolding finished ended
 ended-back [] a = refl
 ended-back ([] ∷ []) a = refl
-ended-back ((b ∷ bs) ∷ []) (a-line p a) = elim p [ ]
-ended-back (p ∷ q ∷ ps) (a-line h a) = λ i. line-back p h i ∷ ended-back (q ∷ ps) a i
+ended-back ((b ∷ bs) ∷ []) (each p a) = elim p [ ]
+ended-back (p ∷ q ∷ ps) (each h a) = λ i. line-back p h i ∷ ended-back (q ∷ ps) a i
 
 -- the lines of a readable text are those of its sheet, each as it is written
 pub text-lines : (text : List ℕ) (s : Sheet) → meaning text ≡ readable s → textLines text ≡ map lineBytes (sheetWritten s)
@@ -57,12 +57,5 @@ unfolding linesOf
 text-lines text s e =
     let l = readable-lines text s e in
     text-ended text
-    ∙ ended-back (splitOn newline text) (subst AllProper (sym l) (sheet-proper s))
+    ∙ ended-back (splitOn newline text) (subst (Each Proper) (sym l) (sheet-proper s))
     ∙ ap (map lineBytes) l
-
--- lines joined
-
-pub flatten-lines : (ls : List Line) → flatten (map lineBytes ls) ≡ linesBytes ls
-unfolding flatten linesBytes
-flatten-lines [] = refl
-flatten-lines (l ∷ ls) = ap (λ (z : List ℕ). lineBytes l ++ z) (flatten-lines ls)

@@ -1,7 +1,7 @@
 -- A sheet as it is written: its lines, and their bytes (document 01, The sheet). `RoundTrip.readable-print` says that a text which
 -- reads as a sheet is that sheet's print. Stands on Sheet, Keys, Lines and Decimals.
 use Prim.Native.Nat.{ℕ}
-use mathlib.Core.List.{List, [], _∷_, _++_, map}
+use mathlib.Core.List.{List, [], _∷_, _++_, map, flatten}
 use lib.ListN.{length}
 use Rattle.sheet_rules.specs.declared.Kind.{Kind}
 use Rattle.sheet_rules.specs.declared.Kind.the-variants.{Pure, Resource}
@@ -92,9 +92,8 @@ lineBytes (line k (n ∷ ns)) = lineText (keyText k) n ns
 lineBytes torn = []
 
 -- lines, one after another (The sheet)
-unfoldable pub linesBytes : List Line → List ℕ
-linesBytes [] = []
-linesBytes (l ∷ ls) = lineBytes l ++ linesBytes ls
+abbrev pub linesBytes : List Line → List ℕ
+linesBytes ls = flatten (map lineBytes ls)
 
 -- a sheet's text (The sheet)
 unfoldable pub print : Sheet → List ℕ
