@@ -39,8 +39,12 @@ extern "C" {
 #define LEXONDAR_NO_VALUE 65535
 
 /*
- * The refusal in every result: 0, or why there is no answer. With it comes the
- * line at fault, counted from 1; 0 where no line is.
+ * Every result begins with the same four numbers.
+ *
+ *   refusal  0, or why there is no answer
+ *   line     the line at fault, counted from 1; 0 where no line is
+ *   lack     what is lacking, of a misfit or of a row that does not fit; else 0
+ *   name     the name of the member that is lacking; else 0
  */
 enum lexondar_refusal {
     LEXONDAR_ANSWERED = 0,
@@ -53,10 +57,23 @@ enum lexondar_refusal {
     LEXONDAR_NOT_DEFINED = 7,      /* a row, form, kept value or slot that is not there */
     LEXONDAR_IMPURE_FORM = 8,      /* a pure row's form has a field or keeps a resource row */
     LEXONDAR_NO_SUCH_MEMBER = 9,   /* no such method or field; get or put in main */
-    LEXONDAR_MISFIT = 10,          /* a value does not fit, or a new has not its kept values */
+    LEXONDAR_MISFIT = 10,          /* a value does not fit, or a new has not its kept values;
+                                      lack says what is lacking */
     LEXONDAR_NO_HOLDER = 11        /* after the run: no such object, a pure one,
                                       or a number over 256; or over 16 listed;
                                       line 0 */
+};
+
+/*
+ * What is lacking. Kind comes before members, and of those the lowest is named.
+ * Of several misfits on a line it is the first: slots in order, then the body's
+ * result.
+ */
+enum lexondar_lack {
+    LEXONDAR_LACKS_NOTHING = 0,
+    LEXONDAR_LACKS_COUNT = 1, /* a new has not one slot for each kept value */
+    LEXONDAR_LACKS_KIND = 2,  /* a resource where pure is asked */
+    LEXONDAR_LACKS_MEMBER = 3 /* a member of the wanted row has no match */
 };
 
 /* How a run ended. */
@@ -74,13 +91,18 @@ enum lexondar_outcome {
  * 32,768 numbers are 0 and later ones as they were; but for refusal 1, which
  * changes no byte of any buffer. A refusal writes nothing to the result
  * buffer. An answer stands at its start, and later places keep their content.
- * Fields of a result that are not its refusal or line are 0 when it refuses.
+ * Fields of a result after the first four are 0 when it refuses.
  */
 
-/* Whether row a fits row b: fits is 1 or 0. Refusals 1 to 7. */
+/*
+ * Whether row a fits row b: fits is 1 or 0, and with 0 lack and name say what
+ * row b asks for that row a lacks. Refusals 1 to 7.
+ */
 struct lexondar_fit_result {
     uint32_t refusal;
     uint32_t line;
+    uint32_t lack;
+    uint32_t name;
     uint32_t fits;
 };
 
@@ -91,6 +113,8 @@ struct lexondar_fit_result lexondar_fit(const uint8_t *text, size_t text_len, si
 struct lexondar_verdict_result {
     uint32_t refusal;
     uint32_t line;
+    uint32_t lack;
+    uint32_t name;
 };
 
 struct lexondar_verdict_result lexondar_verdict(const uint8_t *text, size_t text_len,
@@ -104,6 +128,8 @@ struct lexondar_verdict_result lexondar_verdict(const uint8_t *text, size_t text
 struct lexondar_run_result {
     uint32_t refusal;
     uint32_t line;
+    uint32_t lack;
+    uint32_t name;
     uint32_t outcome;
     uint32_t steps;
     uint32_t value;
@@ -121,6 +147,8 @@ struct lexondar_run_result lexondar_run(const uint8_t *text, size_t text_len, ui
 struct lexondar_authority_result {
     uint32_t refusal;
     uint32_t line;
+    uint32_t lack;
+    uint32_t name;
     uint32_t count;
 };
 
@@ -151,6 +179,8 @@ struct lexondar_authority_result lexondar_group(const uint8_t *text, size_t text
 struct lexondar_report_result {
     uint32_t refusal;
     uint32_t line;
+    uint32_t lack;
+    uint32_t name;
     uint32_t outcome;
     uint32_t steps;
     uint32_t value;
@@ -172,6 +202,8 @@ struct lexondar_report_result lexondar_report(const uint8_t *text, size_t text_l
 struct lexondar_form_result {
     uint32_t refusal;
     uint32_t line;
+    uint32_t lack;
+    uint32_t name;
     size_t start;
     size_t length;
 };

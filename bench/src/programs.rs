@@ -1,9 +1,9 @@
 //! The programs that are compared, and the questions that they are asked.
 
 use crate::{plain, threaded};
-use boundary::{entries, AUTHORITY, REPORT, WORK};
+use boundary::{entries, four, lacking, Begins, Four, AUTHORITY, REPORT, WORK};
 use second::machine::Machine;
-use second::{Refusal, RunAnswer, Sheet};
+use second::{FitAnswer, Refusal, RunAnswer, Sheet};
 use std::cell::RefCell;
 use std::hint::black_box;
 
@@ -36,10 +36,10 @@ pub enum Question {
     Group(u32, u32),
 }
 
-/// A refusal's number and line, or 0; then 1 for yes, or the outcome, steps,
-/// value and number of objects; and how many numbers a report or a group has,
-/// or bytes a form's lines.
-pub type Answer = [u32; 7];
+/// The numbers that every result begins with; then 1 for yes, or the outcome,
+/// steps, value and number of objects; and how many numbers a report or a group
+/// has, or bytes a form's lines.
+pub type Answer = (Four, [u32; 5]);
 
 /// A question that is ready to be asked again and again.
 pub type Call<'a> = Box<dyn FnMut() -> Answer + 'a>;
@@ -114,28 +114,27 @@ fn library(question: Question, text: &[u8]) -> Call<'_> {
     match question {
         Question::Verdict => Box::new(move || {
             let given = with_work(|work| boundary::verdict(black_box(text), work));
-            [given.refusal, given.line, 0, 0, 0, 0, 0]
+            (given.four(), [0; 5])
         }),
         Question::Fit(a, b) => Box::new(move || {
             let (a, b) = (a as usize, b as usize);
             let given = with_work(|work| boundary::fit(black_box(text), a, b, work));
-            [given.refusal, given.line, given.fits, 0, 0, 0, 0]
+            (given.four(), [given.fits, 0, 0, 0, 0])
         }),
         Question::Form(form) => Box::new(move || {
             let g = with_work(|work| boundary::form(black_box(text), form as usize, work));
-            [g.refusal, g.line, 0, 0, 0, 0, g.length as u32]
+            (g.four(), [0, 0, 0, 0, g.length as u32])
         }),
         Question::Run(budget) => Box::new(move || {
             let g = with_work(|work| boundary::run(black_box(text), budget, work));
-            [g.refusal, g.line, g.outcome, g.steps, g.value, g.objects, 0]
+            (g.four(), [g.outcome, g.steps, g.value, g.objects, 0])
         }),
         Question::Report(budget) => {
             let mut result = vec![0; REPORT];
             Box::new(move || {
                 let text = black_box(text);
                 let g = with_work(|work| boundary::report(text, budget, work, &mut result));
-                let run = [g.outcome, g.steps, g.value, g.objects];
-                [g.refusal, g.line, run[0], run[1], run[2], run[3], g.count]
+                (g.four(), [g.outcome, g.steps, g.value, g.objects, g.count])
             })
         }
         Question::Group(budget, members) => {
@@ -143,7 +142,7 @@ fn library(question: Question, text: &[u8]) -> Call<'_> {
             Box::new(move || {
                 let text = black_box(text);
                 let g = with_work(|work| boundary::group(text, budget, &list, work, &mut result));
-                [g.refusal, g.line, 0, 0, 0, 0, g.count]
+                (g.four(), [0, 0, 0, 0, g.count])
             })
         }
     }
@@ -159,13 +158,13 @@ fn second_program(question: Question, text: &[u8]) -> Call<'_> {
     match question {
         Question::Verdict => Box::new(move || judged(second::verdict(black_box(text)))),
         Question::Fit(a, b) => Box::new(move || match second::fit(black_box(text), a, b) {
-            Ok(fits) => [0, 0, fits.into(), 0, 0, 0, 0],
+            Ok(answer) => fitted(answer),
             Err(refusal) => judged(Err(refusal)),
         }),
         Question::Form(form) => {
             let form = form as usize;
             Box::new(move || match second::form(black_box(text), form) {
-                Ok(lines) => [0, 0, 0, 0, 0, 0, lines.len() as u32],
+                Ok(lines) => ([0; 4], [0, 0, 0, 0, lines.len() as u32]),
                 Err(refusal) => judged(Err(refusal)),
             })
         }
@@ -181,7 +180,7 @@ fn second_program(question: Question, text: &[u8]) -> Call<'_> {
                 black_box(judged(second::verdict(black_box(text))));
                 let mut machine = Machine::start(&sheet);
                 let mut answer = ran(machine.run(black_box(budget)));
-                answer[6] = black_box(entries(&machine)).len() as u32;
+                answer.1[4] = black_box(entries(&machine)).len() as u32;
                 answer
             })
         }
@@ -189,7 +188,7 @@ fn second_program(question: Question, text: &[u8]) -> Call<'_> {
             let list = group::<u32>(members);
             Box::new(
                 move || match second::group(black_box(text), budget, &list) {
-                    Ok(held) => [0, 0, 0, 0, 0, 0, black_box(held).len() as u32],
+                    Ok(held) => ([0; 4], [0, 0, 0, 0, black_box(held).len() as u32]),
                     Err(refusal) => judged(Err(refusal)),
                 },
             )
@@ -204,13 +203,16 @@ fn read(text: &[u8]) -> Sheet {
 }
 
 fn judged(verdict: Result<(), Refusal>) -> Answer {
-    match verdict {
-        Ok(()) => [0; 7],
-        Err(refusal) => [refusal.number(), refusal.line, 0, 0, 0, 0, 0],
-    }
+    (verdict.err().map_or([0; 4], four), [0; 5])
+}
+
+fn fitted(answer: FitAnswer) -> Answer {
+    let [lack, name] = lacking(answer.lack());
+    let fits = answer == FitAnswer::Yes;
+    ([0, 0, lack, name], [fits.into(), 0, 0, 0, 0])
 }
 
 fn ran(run: RunAnswer) -> Answer {
     let (value, objects) = (run.value.into(), run.objects.into());
-    [0, 0, run.outcome as u32, run.steps, value, objects, 0]
+    ([0; 4], [run.outcome as u32, run.steps, value, objects, 0])
 }

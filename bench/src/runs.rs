@@ -65,7 +65,7 @@ pub fn steps(text: &[u8]) -> u32 {
     for program in PROGRAMS {
         assert_eq!(program.call(WHOLE, text)(), wanted, "{program:?}");
     }
-    wanted[3]
+    wanted.1[1]
 }
 
 /// Nanoseconds of a run in each program. Reading, judging and clearing are no

@@ -6,7 +6,7 @@
 pub mod answer;
 pub mod raw;
 
-pub use answer::{Outcome, Reason, Refusal, Run};
+pub use answer::{Fit, Lack, Outcome, Reason, Refusal, Run};
 
 /// Main's number as a holder.
 pub const MAIN: usize = 256;
@@ -33,11 +33,11 @@ fn zeros<const N: usize>() -> Box<[u16; N]> {
     numbers.try_into().expect("as many as were made")
 }
 
-/// Whether row a of the text's sheet fits row b.
-pub fn fits(text: &[u8], a: usize, b: usize, work: &mut Work) -> Result<bool, Refusal> {
+/// Whether row a of the text's sheet fits row b, and what is lacking if not.
+pub fn fit(text: &[u8], a: usize, b: usize, work: &mut Work) -> Result<Fit, Refusal> {
     let given = raw::fit(text, a, b, &mut work.0[..]);
-    Refusal::check(given.refusal, given.line)?;
-    Ok(given.fits == 1)
+    Refusal::check(&given)?;
+    Ok(Fit::of(given.lack, given.name))
 }
 
 /// The lines of a form of the text's sheet, as they stand in the text: that
@@ -45,20 +45,20 @@ pub fn fits(text: &[u8], a: usize, b: usize, work: &mut Work) -> Result<bool, Re
 /// readable.
 pub fn form<'a>(text: &'a [u8], form: usize, work: &mut Work) -> Result<&'a [u8], Refusal> {
     let given = raw::form(text, form, &mut work.0[..]);
-    Refusal::check(given.refusal, given.line)?;
+    Refusal::check(&given)?;
     Ok(&text[given.start..given.start + given.length])
 }
 
 /// The verdict on the text's sheet: accepted, or why not.
 pub fn verdict(text: &[u8], work: &mut Work) -> Result<(), Refusal> {
     let given = raw::verdict(text, &mut work.0[..]);
-    Refusal::check(given.refusal, given.line)
+    Refusal::check(&given)
 }
 
 /// The run of the text's sheet for at most `budget` steps.
 pub fn run(text: &[u8], budget: u32, work: &mut Work) -> Result<Run, Refusal> {
     let given = raw::run(text, budget, &mut work.0[..]);
-    Refusal::check(given.refusal, given.line)?;
+    Refusal::check(&given)?;
     Ok(Run::of(
         given.outcome,
         given.steps,
@@ -92,7 +92,7 @@ pub fn authority<'a>(
     held: &'a mut Held,
 ) -> Result<&'a [u16], Refusal> {
     let given = raw::authority(text, budget, holder, &mut work.0[..], &mut held.0[..]);
-    Refusal::check(given.refusal, given.line)?;
+    Refusal::check(&given)?;
     Ok(&held.0[..given.count as usize])
 }
 
@@ -107,7 +107,7 @@ pub fn group<'a>(
     held: &'a mut Held,
 ) -> Result<&'a [u16], Refusal> {
     let given = raw::group(text, budget, holders, &mut work.0[..], &mut held.0[..]);
-    Refusal::check(given.refusal, given.line)?;
+    Refusal::check(&given)?;
     Ok(&held.0[..given.count as usize])
 }
 
@@ -135,7 +135,7 @@ pub fn report<'a>(
     holders: &'a mut Holders,
 ) -> Result<(Run, Entries<'a>), Refusal> {
     let given = raw::report(text, budget, &mut work.0[..], &mut holders.0[..]);
-    Refusal::check(given.refusal, given.line)?;
+    Refusal::check(&given)?;
     let run = Run::of(given.outcome, given.steps, given.value, given.objects);
     Ok((run, Entries(&holders.0[..given.count as usize])))
 }

@@ -56,7 +56,7 @@ static void ask_groups(const uint8_t *text, size_t length, uint32_t budget, uint
         struct lexondar_authority_result group =
             lexondar_group(text, length, budget, list, members, work, LEXONDAR_WORK, held,
                            LEXONDAR_AUTHORITY);
-        add_fields(3, (uint32_t[]){group.refusal, group.line, group.count});
+        add_fields(5, (uint32_t[]){group.refusal, group.line, group.lack, group.name, group.count});
         add_result(held, group.count);
         for (size_t i = 0; i < members; i++)
             if (list[i] != listed(i))
@@ -69,8 +69,8 @@ static void ask_groups(const uint8_t *text, size_t length, uint32_t budget, uint
 static void ask_forms(const uint8_t *text, size_t length, uint16_t *work) {
     for (size_t number = 0; number < 4; number++) {
         struct lexondar_form_result form = lexondar_form(text, length, number, work, LEXONDAR_WORK);
-        add_fields(4, (uint32_t[]){form.refusal, form.line, (uint32_t)form.start,
-                                   (uint32_t)form.length});
+        add_fields(6, (uint32_t[]){form.refusal, form.line, form.lack, form.name,
+                                   (uint32_t)form.start, (uint32_t)form.length});
         add_work(work);
         if (form.refusal == LEXONDAR_ANSWERED) {
             add(text[form.start]);
@@ -84,20 +84,21 @@ static void ask(const uint8_t *text, size_t length, uint32_t budget) {
     uint16_t *held = room(LEXONDAR_AUTHORITY * sizeof *held);
     uint16_t *all = room(LEXONDAR_REPORT * sizeof *all);
     struct lexondar_fit_result fit = lexondar_fit(text, length, 1, 0, work, LEXONDAR_WORK);
-    add_fields(3, (uint32_t[]){fit.refusal, fit.line, fit.fits});
+    add_fields(5, (uint32_t[]){fit.refusal, fit.line, fit.lack, fit.name, fit.fits});
     add_work(work);
     ask_forms(text, length, work);
     struct lexondar_run_result run = lexondar_run(text, length, budget, work, LEXONDAR_WORK);
-    add_fields(6, (uint32_t[]){run.refusal, run.line, run.outcome, run.steps, run.value, run.objects});
+    add_fields(8, (uint32_t[]){run.refusal, run.line, run.lack, run.name, run.outcome, run.steps,
+                               run.value, run.objects});
     struct lexondar_authority_result one = lexondar_authority(
         text, length, budget, LEXONDAR_MAIN, work, LEXONDAR_WORK, held, LEXONDAR_AUTHORITY);
-    add_fields(3, (uint32_t[]){one.refusal, one.line, one.count});
+    add_fields(5, (uint32_t[]){one.refusal, one.line, one.lack, one.name, one.count});
     add_result(held, one.count);
     ask_groups(text, length, budget, work, held);
     struct lexondar_report_result every =
         lexondar_report(text, length, budget, work, LEXONDAR_WORK, all, LEXONDAR_REPORT);
-    add_fields(7, (uint32_t[]){every.refusal, every.line, every.outcome, every.steps, every.value,
-                               every.objects, every.count});
+    add_fields(9, (uint32_t[]){every.refusal, every.line, every.lack, every.name, every.outcome,
+                               every.steps, every.value, every.objects, every.count});
     add_result(all, every.count);
     add_work(work);
     free(work);
@@ -109,7 +110,7 @@ static void ask(const uint8_t *text, size_t length, uint32_t budget) {
 static void judge(const uint8_t *text, size_t length) {
     uint16_t *work = room(LEXONDAR_WORK * sizeof *work);
     struct lexondar_verdict_result verdict = lexondar_verdict(text, length, work, LEXONDAR_WORK);
-    add_fields(2, (uint32_t[]){verdict.refusal, verdict.line});
+    add_fields(4, (uint32_t[]){verdict.refusal, verdict.line, verdict.lack, verdict.name});
     add_work(work);
     free(work);
 }

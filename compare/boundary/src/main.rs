@@ -1,7 +1,8 @@
 //! A small program over the library: a sheet on standard input, the answer to
 //! one question on standard output, in the second program's words.
 
-use boundary::{authority, fit, form, group, run, verdict, RunResult, AUTHORITY, WORK};
+use boundary::{authority, fit, form, group, run, verdict};
+use boundary::{Begins, RunResult, AUTHORITY, WORK};
 use std::io::Read;
 use std::process::ExitCode;
 
@@ -33,13 +34,13 @@ fn answer(words: &[&str], text: &[u8]) -> Option<String> {
     match words {
         ["verdict"] => {
             let given = verdict(text, &mut work);
-            Some(refused(given.refusal, given.line))
+            Some(refused(&given))
         }
         ["fit", a, b] => {
             let given = fit(text, a.parse().ok()?, b.parse().ok()?, &mut work);
             Some(match given.refusal {
-                0 => format!("fit={}\n", given.fits),
-                number => refused(number, given.line),
+                0 => format!("fit={}{}\n", given.fits, lacking(",", &given)),
+                _ => refused(&given),
             })
         }
         ["form", number] => {
@@ -47,14 +48,14 @@ fn answer(words: &[&str], text: &[u8]) -> Option<String> {
             let lines = &text[given.start..given.start + given.length];
             Some(match given.refusal {
                 0 => String::from_utf8_lossy(lines).into_owned(),
-                number => refused(number, given.line),
+                _ => refused(&given),
             })
         }
         ["run", budget] => {
             let given = run(text, budget.parse().ok()?, &mut work);
             Some(match given.refusal {
                 0 => run_lines(given),
-                number => refused(number, given.line),
+                _ => refused(&given),
             })
         }
         _ => held(words, text, &mut work),
@@ -70,7 +71,7 @@ fn held(words: &[&str], text: &[u8], work: &mut [u16]) -> Option<String> {
             let given = authority(text, budget, holder, work, &mut result);
             Some(match given.refusal {
                 0 => holder_line(holder, &result[..given.count as usize]),
-                number => refused(number, given.line),
+                _ => refused(&given),
             })
         }
         ["group", budget, holders @ ..] => {
@@ -80,15 +81,31 @@ fn held(words: &[&str], text: &[u8], work: &mut [u16]) -> Option<String> {
             let given = group(text, budget, &holders, work, &mut result);
             Some(match given.refusal {
                 0 => second::group_line(&result[..given.count as usize]),
-                number => refused(number, given.line),
+                _ => refused(&given),
             })
         }
         _ => None,
     }
 }
 
-fn refused(number: u32, line: u32) -> String {
-    format!("verdict={number}\nline={line}\n")
+/// A refusal's number and line, and of a misfit what is lacking.
+fn refused(result: &impl Begins) -> String {
+    let [number, line, ..] = result.four();
+    let lacking = match lacking("lack=", result) {
+        lacking if lacking.is_empty() => lacking,
+        lacking => lacking + "\n",
+    };
+    format!("verdict={number}\nline={line}\n{lacking}")
+}
+
+/// What is lacking, after a word, with the name if it is a member; nothing
+/// where nothing is.
+fn lacking(word: &str, result: &impl Begins) -> String {
+    match result.four() {
+        [_, _, 0, _] => String::new(),
+        [_, _, 3, name] => format!("{word}3,{name}"),
+        [_, _, lack, _] => format!("{word}{lack}"),
+    }
 }
 
 /// A holder and its authority; the bare holder where that is empty.

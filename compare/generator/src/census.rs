@@ -1,9 +1,13 @@
 //! What accepted sheets make use of, so that a report can tell whether
-//! every kind of subtyping and of receiver occurs.
+//! every kind of subtyping and of receiver occurs, and which cases of misfit
+//! refused sheets have.
 
+use crate::cases::{cases, CASES};
+use crate::walk::passings;
 use second::authority::is_resource;
+use second::fit::FitTable;
 use second::machine::Machine;
-use second::sheet::{Form, Instruction, Kind, Part, Placed, Row};
+use second::sheet::{Instruction, Row};
 use second::{Outcome, Sheet};
 
 /// Sheets in which each thing occurs.
@@ -20,85 +24,14 @@ pub const NAMES: [&str; 7] = [
 /// Which of the things occur in an accepted sheet.
 pub fn census(sheet: &Sheet) -> [bool; 7] {
     let mut found = [false; 7];
-    for (form, part) in bodies(sheet) {
-        look_at_code(sheet, form, part, &mut found);
+    let row = |number: u16| &sheet.rows[usize::from(number)];
+    for (_, passing) in passings(sheet) {
+        for value in passing.values {
+            compare(row(value.given), row(value.asked), &mut found);
+        }
     }
-    look_at_code(sheet, None, (&sheet.main, None), &mut found);
     look_at_run(sheet, &mut found);
     found
-}
-
-type Body<'a> = (&'a [Placed], Option<(u16, u16)>);
-
-/// Every body with its form and its argument and result row.
-fn bodies(sheet: &Sheet) -> Vec<(Option<usize>, Body<'_>)> {
-    let mut bodies = Vec::new();
-    for (number, form) in sheet.forms.iter().enumerate() {
-        let members = &sheet.rows[usize::from(form.row)].members;
-        for (member, part) in members.iter().zip(&form.parts) {
-            if let (Kind::Method { argument, result }, Part::Body(code)) = (member.kind, part) {
-                bodies.push((Some(number), (&code[..], Some((argument, result)))));
-            }
-        }
-    }
-    bodies
-}
-
-/// Compares the row of each value with the row that it goes to.
-fn look_at_code(sheet: &Sheet, own: Option<usize>, body: Body<'_>, found: &mut [bool; 7]) {
-    let (code, signature) = body;
-    let own = own.map(|own| &sheet.forms[own]);
-    let mut slots = Vec::new();
-    if let (Some(form), Some((argument, _))) = (own, signature) {
-        slots.extend([form.row, argument]);
-        slots.extend(form.keeps.iter().map(|keep| keep.row));
-    }
-    for placed in code {
-        let filled = look_at_instruction(sheet, own, &placed.instruction, &slots, found);
-        slots.push(filled);
-    }
-    if let (Some((_, result)), Some(last)) = (signature, slots.last()) {
-        compare(row(sheet, *last), row(sheet, result), found);
-    }
-}
-
-fn row(sheet: &Sheet, number: u16) -> &Row {
-    &sheet.rows[usize::from(number)]
-}
-
-/// The row of the slot that an instruction of an accepted sheet fills.
-fn look_at_instruction(
-    sheet: &Sheet,
-    own: Option<&Form>,
-    instruction: &Instruction,
-    slots: &[u16],
-    found: &mut [bool; 7],
-) -> u16 {
-    let at = |slot: &u16| slots[usize::from(*slot)];
-    match instruction {
-        Instruction::New { form, slots: given } => {
-            let form = &sheet.forms[usize::from(*form)];
-            for (slot, keep) in given.iter().zip(&form.keeps) {
-                compare(row(sheet, at(slot)), row(sheet, keep.row), found);
-            }
-            form.row
-        }
-        Instruction::Call {
-            slot,
-            name,
-            argument,
-        } => {
-            let method = row(sheet, at(slot)).method(*name);
-            let (asked, result) = method.expect("an accepted sheet");
-            compare(row(sheet, at(argument)), row(sheet, asked), found);
-            result
-        }
-        Instruction::Get { name } | Instruction::Put { name, .. } => {
-            let field = own.and_then(|form| row(sheet, form.row).field(*name));
-            field.expect("an accepted sheet")
-        }
-        Instruction::Copy { slot } => at(slot),
-    }
 }
 
 /// In what the row of a value differs from the row that was asked for.
@@ -130,5 +63,57 @@ fn look_at_run(sheet: &Sheet, found: &mut [bool; 7]) {
         }
         found[5] |= pure && machine.objects.len() > objects;
         found[6] |= pure && machine.frames.len() > frames;
+    }
+}
+
+/// How many misfits are of each case: the only one of their line, and one
+/// of several.
+#[derive(Clone, Debug, PartialEq, Eq)]
+pub struct Misfits {
+    pub counts: [[u64; 2]; CASES.len()],
+}
+
+impl Default for Misfits {
+    fn default() -> Misfits {
+        Misfits {
+            counts: [[0; 2]; CASES.len()],
+        }
+    }
+}
+
+impl Misfits {
+    /// Counts the cases of the line for which a sheet is refused.
+    pub fn add(&mut self, sheet: &Sheet, line: u32) {
+        let fit = FitTable::of(&sheet.rows);
+        let passings = passings(sheet).into_iter();
+        for (_, passing) in passings.filter(|passing| passing.0 == line) {
+            let (cases, several) = cases(&sheet.rows, &fit, &passing);
+            for case in cases {
+                self.counts[case as usize][usize::from(several)] += 1;
+            }
+        }
+    }
+
+    /// The cases that can be and that no misfit is of.
+    pub fn missing(&self) -> Vec<String> {
+        let mut missing = Vec::new();
+        for ((_, name, company), counts) in CASES.iter().zip(&self.counts) {
+            let ways = ["alone", "beside others"].iter().zip(company).zip(counts);
+            for ((way, can_be), count) in ways {
+                if *can_be && *count == 0 {
+                    missing.push(format!("misfit by {name} {way}"));
+                }
+            }
+        }
+        missing
+    }
+
+    /// A line for each case.
+    pub fn lines(&self) -> String {
+        let counts = CASES.iter().zip(&self.counts);
+        let line = |((_, name, _), [alone, several]): (&(_, &str, _), &[u64; 2])| {
+            format!("misfit by {name}: {alone} alone, {several} beside others\n")
+        };
+        counts.map(line).collect()
     }
 }

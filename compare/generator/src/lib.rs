@@ -3,6 +3,7 @@
 
 #![forbid(unsafe_code)]
 
+pub mod cases;
 pub mod census;
 mod code;
 mod damage;
@@ -10,6 +11,7 @@ mod draft;
 mod edges;
 mod group;
 mod mill;
+mod misfit;
 mod mutate;
 mod plan;
 mod readable;
@@ -18,6 +20,7 @@ mod rng;
 mod rows;
 mod style;
 mod tower;
+pub mod walk;
 
 use draft::{render, Draft};
 use rng::Rng;
@@ -25,7 +28,7 @@ use rng::Rng;
 pub use group::group;
 
 /// After this number of indexes the kinds come round again.
-pub const ROTATION: u64 = 20;
+pub const ROTATION: u64 = 22;
 
 /// The sheet of a seed and an index.
 pub fn sheet(seed: u64, index: u64) -> Vec<u8> {
@@ -47,7 +50,8 @@ pub fn sheet(seed: u64, index: u64) -> Vec<u8> {
             let kind = (round * 2 + kind - 15) % damage::DAMAGES;
             damage::damage(&mut rng, text, kind)
         }
-        kind => edge(&mut rng, round * 3 + kind - 17),
+        kind @ 17..=19 => edge(&mut rng, round * 3 + kind - 17),
+        kind => render(&misfit::misfit(&mut rng, round * 2 + kind - 20)),
     }
 }
 

@@ -12,8 +12,9 @@ usage: generator SEED INDEX           write one sheet to standard output
                                       typed, to standard output
        generator report SEED COUNT    judge and run sheets 0 to COUNT - 1 of a
                                       seed and tell what they reach; exits with
-                                      status 1 if a refusal from 2 to 10 or an
-                                      outcome is reached by none
+                                      status 1 if a refusal from 2 to 10, an
+                                      outcome or a case of misfit is reached by
+                                      none
        generator --help               this text
 
 SEED, INDEX and COUNT are decimals of 64 bits.

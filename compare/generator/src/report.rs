@@ -1,8 +1,10 @@
 //! A tally of what a run of sheets reaches.
 
-use crate::census::{census, NAMES};
+use crate::cases::{causes, CASES, CAUSES};
+use crate::census::{census, Misfits, NAMES};
 use crate::rng::Rng;
-use second::Refusal;
+use second::fit::FitTable;
+use second::{FitAnswer, Refusal};
 
 /// Budgets at which the sheets of a report are run.
 const BUDGETS: [u32; 12] = [0, 1, 2, 7, 8, 20, 65, 66, 500, 10_000, 10_000, 100_000];
@@ -18,8 +20,14 @@ pub struct Report {
     /// The refusals whose line is in the second half of the sheet.
     pub late: [u64; 12],
     pub outcomes: [u64; 4],
-    /// A random pair of rows of each sheet: fits not, fits, is not there.
-    pub fits: [u64; 3],
+    /// Of refusal 10, by what is lacking.
+    pub lacks: [u64; 4],
+    pub misfits: Misfits,
+    /// A random pair of rows of each sheet: fits, lacks kind, lacks a member,
+    /// is not there.
+    pub fits: [u64; 4],
+    /// Why such a pair does not fit, by the last cases of all.
+    pub causes: [u64; CAUSES],
     /// A list of holders for each accepted sheet: answered, refused with 11.
     pub groups: [u64; 2],
     /// By the names of the census.
@@ -71,6 +79,10 @@ impl Report {
         let lines = text.iter().filter(|byte| **byte == b'\n').count();
         let late = refusal.line as usize > lines / 2;
         self.late[refusal.number() as usize] += u64::from(late);
+        if let (Some(lack), Ok(sheet)) = (refusal.lack(), second::read(text)) {
+            self.lacks[lack.number() as usize] += 1;
+            self.misfits.add(&sheet, refusal.line);
+        }
     }
 
     fn add_fit(&mut self, text: &[u8], rng: &mut Rng) {
@@ -78,13 +90,22 @@ impl Report {
             return;
         };
         let mut row = || rng.below(sheet.rows.len() + usize::from(sheet.rows.len() > 9)) as u32;
-        match second::fit(text, row(), row()) {
-            Ok(fits) => self.fits[usize::from(fits)] += 1,
-            Err(_) => self.fits[2] += 1,
+        let (a, b) = (row(), row());
+        let place = match second::fit(text, a, b) {
+            Ok(FitAnswer::Yes) => 0,
+            Ok(FitAnswer::Kind) => 1,
+            Ok(FitAnswer::Member(_)) => 2,
+            Err(_) => return self.fits[3] += 1,
+        };
+        self.fits[place] += 1;
+        let fit = FitTable::of(&sheet.rows);
+        for cause in causes(&sheet.rows, &fit, a as u16, b as u16) {
+            self.causes[cause as usize + CAUSES - CASES.len()] += 1;
         }
     }
 
-    /// The refusals 2 to 10 and outcomes that no sheet reached.
+    /// The refusals 2 to 10, outcomes and cases of misfit that no sheet
+    /// reached.
     pub fn missing(&self) -> Vec<String> {
         let refusals = (2..=10)
             .filter(|number| self.refusals[*number] == 0)
@@ -92,7 +113,8 @@ impl Report {
         let outcomes = (0..4)
             .filter(|number| self.outcomes[*number] == 0)
             .map(|number| format!("outcome {number}"));
-        refusals.chain(outcomes).collect()
+        let misfits = self.misfits.missing();
+        refusals.chain(outcomes).chain(misfits).collect()
     }
 
     /// The tally, a line for each count.
@@ -105,13 +127,21 @@ impl Report {
         for (number, count) in self.outcomes.iter().enumerate() {
             lines += &format!("outcome {number}: {count}\n");
         }
-        let [no, yes, none] = self.fits;
-        lines += &format!("fit 0: {no}, fit 1: {yes}, no such row: {none}\n");
+        let [yes, kind, member, none] = self.fits;
+        lines += &format!("fit yes: {yes}, kind: {kind}, member: {member}, ");
+        lines += &format!("no such row: {none}\n");
+        let names = &CASES[CASES.len() - CAUSES..];
+        for ((_, name, _), count) in names.iter().zip(&self.causes) {
+            lines += &format!("no fit by {name}: {count}\n");
+        }
         let [answered, refused] = self.groups;
         lines += &format!("group answered: {answered}, no holder: {refused}\n");
         for (name, count) in NAMES.iter().zip(&self.uses) {
             lines += &format!("accepted with {name}: {count}\n");
         }
-        lines
+        for (number, count) in self.lacks.iter().enumerate().skip(1) {
+            lines += &format!("lack {number}: {count}\n");
+        }
+        lines + &self.misfits.lines()
     }
 }

@@ -110,6 +110,18 @@ pub const ROWS: Style = Style {
     ..LARGE
 };
 
+/// Few names and many fields, so that a name stands for different things.
+pub const CROSSED: Style = Style {
+    rows: 12,
+    members: 3,
+    names: 3,
+    fields: 50,
+    forms: 14,
+    keeps: 3,
+    main: 24,
+    ..SMALL
+};
+
 /// Mills; they make their rows and forms themselves.
 pub const MILL: Style = Style { main: 32, ..SMALL };
 

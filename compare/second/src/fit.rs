@@ -1,12 +1,34 @@
 //! Which row fits which.
 
-use crate::sheet::{Kind, Row};
+use crate::refusal::Lack;
+use crate::sheet::{Kind, Row, ROW_LIMIT};
+
+/// The answer of the fit question.
+#[derive(Clone, Copy, Debug, PartialEq, Eq, PartialOrd, Ord, Hash)]
+pub enum FitAnswer {
+    Yes,
+    /// A resource is given where pure is asked.
+    Kind,
+    /// The lowest name that is asked for and has no match.
+    Member(u16),
+}
+
+impl FitAnswer {
+    /// What is lacking; nothing where the answer is yes.
+    pub fn lack(self) -> Option<Lack> {
+        match self {
+            FitAnswer::Yes => None,
+            FitAnswer::Kind => Some(Lack::Kind),
+            FitAnswer::Member(name) => Some(Lack::Member(name)),
+        }
+    }
+}
 
 /// The fit of every row to every row, each pair settled once.
 #[derive(Clone, Debug, Default)]
 pub struct FitTable {
-    /// `fits[a][b]` tells whether row a fits row b.
-    fits: Vec<Vec<bool>>,
+    /// `answers[a][b]` is the answer for row a and row b.
+    answers: Vec<Vec<FitAnswer>>,
 }
 
 impl FitTable {
@@ -23,27 +45,40 @@ impl FitTable {
     /// that an answer needs is already there.
     pub fn extend(&mut self, rows: &[Row]) {
         let last = rows.len() - 1;
-        self.fits.push(Vec::new());
+        // Room for all at once: growing place by place takes longer.
+        let room = Vec::with_capacity(usize::from(ROW_LIMIT));
+        self.answers.push(room);
         for other in 0..last {
             let to_last = self.settle(&rows[other], &rows[last]);
-            self.fits[other].push(to_last);
+            self.answers[other].push(to_last);
             let from_last = self.settle(&rows[last], &rows[other]);
-            self.fits[last].push(from_last);
+            self.answers[last].push(from_last);
         }
         let to_itself = self.settle(&rows[last], &rows[last]);
-        self.fits[last].push(to_itself);
+        self.answers[last].push(to_itself);
+    }
+
+    /// Whether row a fits row b, and if not, what it lacks.
+    pub fn answer(&self, a: u16, b: u16) -> FitAnswer {
+        self.answers[usize::from(a)][usize::from(b)]
     }
 
     /// Whether row a fits row b.
     pub fn fits(&self, a: u16, b: u16) -> bool {
-        self.fits[usize::from(a)][usize::from(b)]
+        self.answer(a, b) == FitAnswer::Yes
     }
 
-    fn settle(&self, a: &Row, b: &Row) -> bool {
-        (!a.resource || b.resource)
-            && b.members
-                .iter()
-                .all(|asked| self.has_match(a, asked.name, asked.kind))
+    /// Kind comes before names, and names ascend, so the first member
+    /// without a match is the lowest.
+    fn settle(&self, a: &Row, b: &Row) -> FitAnswer {
+        if a.resource && !b.resource {
+            return FitAnswer::Kind;
+        }
+        let unmatched = b
+            .members
+            .iter()
+            .find(|asked| !self.has_match(a, asked.name, asked.kind));
+        unmatched.map_or(FitAnswer::Yes, |asked| FitAnswer::Member(asked.name))
     }
 
     /// Whether row a has a match for a member that is asked of it.

@@ -17,24 +17,28 @@ mod stretch;
 mod typing;
 
 pub use authority::{GROUP_LIMIT, MAIN};
+pub use fit::FitAnswer;
 pub use machine::{Outcome, RunAnswer, NO_VALUE};
-pub use print::{group_line, holder_line, print, refusal_lines, PROGRAM_BUDGET};
+pub use print::{
+    fit_line, group_line, holder_line, print, question_lines, refusal_lines, PROGRAM_BUDGET,
+};
 pub use reader::read;
-pub use refusal::{Reason, Refusal};
+pub use refusal::{Lack, Reason, Refusal};
 pub use sheet::Sheet;
 
 /// The two lines that stand for an accepted sheet.
 pub const NO_REFUSAL: &str = "verdict=0\nline=0\n";
 
-/// Whether row a of the sheet fits row b. Stops after reading.
-pub fn fit(text: &[u8], a: u32, b: u32) -> Result<bool, Refusal> {
+/// Whether row a of the sheet fits row b, and if not, what it lacks. Stops
+/// after reading.
+pub fn fit(text: &[u8], a: u32, b: u32) -> Result<FitAnswer, Refusal> {
     let sheet = read(text)?;
     let row = |number: u32| match u16::try_from(number) {
         Ok(row) if usize::from(row) < sheet.rows.len() => Ok(row),
         _ => Err(Refusal::at(Reason::LooseEnd, 0)),
     };
     let (a, b) = (row(a)?, row(b)?);
-    Ok(fit::FitTable::of(&sheet.rows).fits(a, b))
+    Ok(fit::FitTable::of(&sheet.rows).answer(a, b))
 }
 
 /// The lines of a form: the stretch of the text itself in which they stand.

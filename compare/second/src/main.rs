@@ -8,7 +8,8 @@ use std::process::ExitCode;
 
 const USAGE: &str = "\
 usage: second                          judge, run 10,000 steps, print all
-       second fit A B                  fit=1 or fit=0
+       second fit A B                  fit=1 for yes, fit=0,2 for kind or
+                                       fit=0,3,N for member N
        second form F                   the lines of form F as they stand
        second verdict                  verdict=0 and line=0
        second run BUDGET               run=OUTCOME,STEPS,VALUE,OBJECTS
@@ -21,7 +22,9 @@ from 0 to 4294967295. Forms count from 0. Main is holder 256. The bare holder is
 printed where an authority is empty. A group lists any number of holders, or
 none; more than 16 are refused. The bare word group is printed where its joined
 authority is empty. A refusal is printed as verdict=N and line=L in place of the
-answer, with exit status 0. A wrong command line exits with status 2.
+answer, with exit status 0. Where a word asks, a misfit (verdict=10) has a third
+line: lack=1 for count, lack=2 for kind or lack=3,N for member N. A wrong command
+line exits with status 2.
 ";
 
 /// What the command line asks for.
@@ -91,9 +94,7 @@ fn answer(question: Question) -> io::Result<()> {
     };
     let answer = match question {
         Question::Print => Ok(second::print(&text)),
-        Question::Fit(a, b) => {
-            second::fit(&text, a, b).map(|fits| format!("fit={}\n", u8::from(fits)))
-        }
+        Question::Fit(a, b) => second::fit(&text, a, b).map(second::fit_line),
         Question::Form(form) => second::form(&text, form as usize).map(plain),
         Question::Verdict => second::verdict(&text).map(|()| String::from(second::NO_REFUSAL)),
         Question::Run(budget) => second::run(&text, budget).map(run_line),
@@ -105,7 +106,7 @@ fn answer(question: Question) -> io::Result<()> {
         }
         Question::Help => Ok(String::from(USAGE)),
     };
-    let lines = answer.unwrap_or_else(second::refusal_lines);
+    let lines = answer.unwrap_or_else(second::question_lines);
     io::stdout().write_all(lines.as_bytes())
 }
 

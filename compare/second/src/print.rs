@@ -1,8 +1,9 @@
-//! The program's printed answer.
+//! The program's printed answers.
 
 use crate::authority::{authority_of, holders};
+use crate::fit::FitAnswer;
 use crate::machine::Machine;
-use crate::refusal::Refusal;
+use crate::refusal::{Lack, Refusal};
 use crate::{accepted, NO_REFUSAL};
 
 /// The steps that the program allows a sheet.
@@ -30,6 +31,32 @@ pub fn print(text: &[u8]) -> String {
 /// The two lines of a refusal.
 pub fn refusal_lines(refusal: Refusal) -> String {
     format!("verdict={}\nline={}\n", refusal.number(), refusal.line)
+}
+
+/// The lines of a refusal in answer to a question: a misfit has a third,
+/// which tells what is lacking.
+pub fn question_lines(refusal: Refusal) -> String {
+    let mut lines = refusal_lines(refusal);
+    if let Some(lack) = refusal.lack() {
+        lines += &format!("lack={}\n", lack_numbers(lack));
+    }
+    lines
+}
+
+/// The answer of the fit question.
+pub fn fit_line(answer: FitAnswer) -> String {
+    match answer.lack() {
+        None => String::from("fit=1\n"),
+        Some(lack) => format!("fit=0,{}\n", lack_numbers(lack)),
+    }
+}
+
+/// The number of a lack, and a member's name after it.
+fn lack_numbers(lack: Lack) -> String {
+    match lack {
+        Lack::Count | Lack::Kind => lack.number().to_string(),
+        Lack::Member(name) => format!("{},{name}", lack.number()),
+    }
 }
 
 /// A holder and its authority; the bare holder where that is empty.

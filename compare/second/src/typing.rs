@@ -1,7 +1,7 @@
 //! The typing verdict: the refusals 8 to 10 of a sheet that was read.
 
 use crate::fit::FitTable;
-use crate::refusal::{Reason, Refusal};
+use crate::refusal::{Lack, Reason, Refusal};
 use crate::sheet::{Code, Form, Instruction, Kind, Part, Placed, Row, Sheet};
 
 /// Judges the lines in their order; the first at fault is the answer.
@@ -61,10 +61,9 @@ impl Typing<'_> {
 
     /// A value of row `given` goes where row `asked` is declared.
     fn pass(&self, given: u16, asked: u16, line: u32) -> Result<(), Refusal> {
-        if self.fit.fits(given, asked) {
-            Ok(())
-        } else {
-            Err(Refusal::at(Reason::Misfit, line))
+        match self.fit.answer(given, asked).lack() {
+            None => Ok(()),
+            Some(lack) => Err(Refusal::at(Reason::Misfit(lack), line)),
         }
     }
 
@@ -85,11 +84,12 @@ impl Typing<'_> {
         Ok(last)
     }
 
-    /// A creation, with the rows of the values that are given.
+    /// A creation, with the rows of the values that are given. Their count
+    /// comes before any of them.
     fn judge_new(&self, form: u16, given: &[u16], line: u32) -> Result<u16, Refusal> {
         let form = &self.sheet.forms[usize::from(form)];
         if given.len() != form.keeps.len() {
-            return Err(Refusal::at(Reason::Misfit, line));
+            return Err(Refusal::at(Reason::Misfit(Lack::Count), line));
         }
         for (row, keep) in given.iter().zip(&form.keeps) {
             self.pass(*row, keep.row, line)?;

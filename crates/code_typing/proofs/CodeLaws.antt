@@ -3,7 +3,7 @@ use Prim.Native.Nat.{ℕ, suc, _+_, _≤_, _<_}
 use native.Mathlib.Omega.{arith}
 use native.Mathlib.Numerals.{add-one}
 use mathlib.Core.Path.{_≡_, refl, sym, ap, ap₂, _∙_, subst}
-use mathlib.Core.Bool.{Bool, true, false}
+use mathlib.Core.Bool.{Bool, true, false, cond}
 use mathlib.Core.List.{List, [], _∷_, _++_}
 use mathlib.Core.Option.{Option, none, some}
 use lib.Dec.{eqb}
@@ -12,9 +12,12 @@ use lib.Seq.{drop-cons, getD-set-same, getD-set-other}
 use borrow.Author.Tests.{eqb-true, eqb-false}
 use Rattle.lists.proofs.TabLaws.{tab-suc, tab-ext, length-tab, getD-tab}
 use Rattle.lists.proofs.Tests.{clash}
+use Rattle.sheet_rules.specs.declared.FitAnswer.{FitAnswer}
+use Rattle.sheet_rules.specs.declared.FitAnswer.the-variants.{Yes}
 use Rattle.sheet_rules.specs.declared.Reason.{Reason}
-use Rattle.sheet_rules.specs.Sheet.{Instr, copy, Sheet}
+use Rattle.sheet_rules.specs.Sheet.{Instr, copy, Sheet, rowAt}
 use Rattle.sheet_rules.specs.WellFormed.{WellFormed}
+use Rattle.type_rules.specs.Fit.{rowAnswer}
 use Rattle.type_rules.specs.Typing.{Fault, Own, firstOf, instrFault, resultFault, slotRow, slotRows, codeFaults}
 use Rattle.type_rules.proofs.TypingLaws.{result-row}
 use Rattle.table.specs.Layout.{fitAddress, slotRowAddress, workSize}
@@ -23,13 +26,14 @@ use Rattle.table.specs.Told.{slotRowsIn}
 use Rattle.table.specs.Whole.{Whole}
 use Rattle.table.proofs.ViewLaws.{SameTable, only→same, only-refl, only-set, only-trans, instrIn-same, sheetIn-same}
 use Rattle.fit.specs.Told.{firstBit, tells}
+use Rattle.fit_answer.specs.Told.{answers}
 use Rattle.instr_typing.specs.declared.InstrJudged.{InstrJudged}
 use Rattle.instr_typing.specs.Told.{judgedOf}
+use Rattle.instr_typing.proofs.InstrLaws.{good-none, good-row, refused-some}
 use Rattle.code_typing.specs.declared.Walked.{Walked}
 use Rattle.code_typing.specs.Walk.{walk}
 use Rattle.code_typing.specs.Told.{lastFault, lineJudged, stoppedAt, OnlySlots, CodeJudged, instrJudgeIn, codeFaultsIn, codeSlotRows}
 use Rattle.code_typing.proofs.WalkLaws.{walk-none, walk-good, walk-bad}
-use Rattle.code_typing.proofs.LineLaws.{good-none, good-row}
 
 -- what a change of slots' rows leaves as it was
 
@@ -43,8 +47,14 @@ module _ {w w′ : List ℕ} (o : OnlySlots w w′) where
   pub slots-instr : (p : ℕ) → instrIn w′ p ≡ instrIn w p
   slots-instr p = instrIn-same w w′ table-same p
 
-  pub slots-tells : tells w′ ≡ tells w
-  slots-tells = λ x a b. firstBit (o .below (fitAddress a b) (omega arith) x)
+  pub slots-answers : answers w′ ≡ answers w
+  unfolding answers
+  slots-answers =
+      λ x a b.
+      (cond (told x a b) Yes (rowAnswer (told x) (rowAt ((slots-sheet x) .rows) a) (rowAt ((slots-sheet x) .rows) b)))
+    where
+      told : tells w′ ≡ tells w
+      told = λ x a b. firstBit (o .below (fitAddress a b) (omega arith) x)
 
   pub slots-whole : Whole w → Whole w′
   slots-whole h = record { size = omega (arith, o .size, h .size); sheet = subst WellFormed (sym slots-sheet) (h .sheet) }
@@ -59,7 +69,7 @@ slots-more w w′ n r h size e =
     (ap (λ (x : List ℕ). cell x (slotRowAddress n)) e ∙ getD-set-same w (slotRowAddress n) r 0 (omega arith))
 
 -- the declared result is asked on the last line
-result-last : (fit : ℕ → ℕ → Bool) (wanted : Option ℕ) (a : ℕ) (is : List Instr) (last : Bool) → (last ≡ true → is ≡ []) → (last ≡ false → is ≡ [] → ⊥)
+result-last : (fit : ℕ → ℕ → FitAnswer) (wanted : Option ℕ) (a : ℕ) (is : List Instr) (last : Bool) → (last ≡ true → is ≡ []) → (last ≡ false → is ≡ [] → ⊥)
     → lastFault fit wanted a last ≡ resultFault fit wanted a is
 result-last fit none a is true h n = refl
 result-last fit none a is false h n = refl
@@ -141,7 +151,7 @@ module _ {own : Own} {wanted : Option ℕ} {filled start count first : ℕ} {w�
     rest = drop (suc j) code
 
     fault : Fault
-    fault = firstOf (instrFault (tells w₀) (sheetIn w₀) own rows instr) (resultFault (tells w₀) wanted row rest)
+    fault = firstOf (instrFault (answers w₀) (sheetIn w₀) own rows instr) (resultFault (answers w₀) wanted row rest)
 
     next-here : drop j code ≡ instr ∷ rest
     unfolding instr rest
@@ -170,7 +180,7 @@ module _ {own : Own} {wanted : Option ℕ} {filled start count first : ℕ} {w�
         cc-empty e = cc
 
     -- the rule's judgement of the line, over the buffer at the start
-    judgedWith : (ℕ → ℕ → Bool) → Sheet → Instr → InstrJudged
+    judgedWith : (ℕ → ℕ → FitAnswer) → Sheet → Instr → InstrJudged
     judgedWith fit s i = judgedOf (firstOf (instrFault fit s own rows i) (lastFault fit wanted (slotRow s own rows i) last)) (slotRow s own rows i)
 
     judged-rule : judged ≡ judgedOf fault row
@@ -178,14 +188,14 @@ module _ {own : Own} {wanted : Option ℕ} {filled start count first : ℕ} {w�
     judged-rule =
         told
         ∙ ap (λ (p : ℕ). lineJudged w own wanted (filled + j) (instrIn w (p + j)) last) place-is
-        ∙ (λ x. judgedWith (slots-tells (g .only) x) (slots-sheet (g .only) x) (slots-instr (g .only) (start + j) x))
-        ∙ ap (λ (f : Fault). judgedOf (firstOf (instrFault (tells w₀) (sheetIn w₀) own rows instr) f) row) (result-last (tells w₀) wanted row rest last ends goes-on)
+        ∙ (λ x. judgedWith (slots-answers (g .only) x) (slots-sheet (g .only) x) (slots-instr (g .only) (start + j) x))
+        ∙ ap (λ (f : Fault). judgedOf (firstOf (instrFault (answers w₀) (sheetIn w₀) own rows instr) f) row) (result-last (answers w₀) wanted row rest last ends goes-on)
 
     walk-here : walk line (fault ∷ faults (rows ++ (row ∷ [])) rest) ≡ walk first (codeFaultsIn w₀ own wanted filled start count)
     unfolding rows instr row fault rest codeFaults
     walk-here =
-        ap (λ (f : Fault). walk line (firstOf (instrFault (tells w₀) (sheetIn w₀) own rows instr) f ∷ faults (rows ++ (row ∷ [])) rest))
-        (sym (result-row (tells w₀) (sheetIn w₀) own wanted rows instr rest))
+        ap (λ (f : Fault). walk line (firstOf (instrFault (answers w₀) (sheetIn w₀) own rows instr) f ∷ faults (rows ++ (row ∷ [])) rest))
+        (sym (result-row (answers w₀) (sheetIn w₀) own wanted rows instr rest))
         ∙ sym (ap (λ (is : List Instr). walk line (faults (slotRowsIn w (filled + j)) is)) next-here) ∙ g .same
 
     slots-here : slotsFrom (rows ++ (row ∷ [])) rest ≡ codeSlotRows w₀ own filled start count
@@ -198,7 +208,7 @@ module _ {own : Own} {wanted : Option ℕ} {filled start count first : ℕ} {w�
           lines = record {
             told =
                 stops ∙ walk-bad line q (faults (rows ++ (row ∷ [])) rest)
-                ∙ ap (λ (f : Fault). walk line (f ∷ faults (rows ++ (row ∷ [])) rest)) (go fault (sym judged-rule ∙ e)) ∙ walk-here;
+                ∙ ap (λ (f : Fault). walk line (f ∷ faults (rows ++ (row ∷ [])) rest)) (sym (refused-some fault row q (sym judged-rule ∙ e))) ∙ walk-here;
             only = g .only;
           };
           slots = λ n on. no-way n (sym stops ∙ on);
@@ -209,10 +219,6 @@ module _ {own : Own} {wanted : Option ℕ} {filled start count first : ℕ} {w�
 
         no-way : (n : ℕ) {A : Type 0} → Walked.Stopped q line ≡ Walked.On n → A
         no-way n c = clash (cc)
-
-        go : (f : Fault) → judgedOf f row ≡ InstrJudged.Refused q → some q ≡ f
-        go none e = clash (cc)
-        go (some r) e = cc
 
     pub code-next : filled + count ≤ 64 → workSize ≤ length w₀ → {r : ℕ} → judged ≡ InstrJudged.Good r → {w′ : List ℕ} → w′ ≡ set w (slotRowAddress (filled + j)) r
         → CodeGoing own wanted filled start count first w₀ w′ (j + 1) (line + 1)

@@ -1,27 +1,22 @@
--- One line of a body, judged: a law for each exit. Assumes nothing.
-use Prim.Native.Nat.{ℕ}
+-- One line of a body, judged: a law for each exit; and a line judged alone. Assumes nothing.
+use Prim.Native.Nat.{ℕ, _+_}
 use mathlib.Core.Path.{_≡_, refl, sym, ap, ap₂, _∙_}
 use mathlib.Core.Bool.{Bool, true, false}
+use mathlib.Core.List.{[], _∷_}
 use mathlib.Core.Option.{Option, none, some}
 use Rattle.lists.proofs.Tests.{clash}
+use Rattle.sheet_rules.specs.declared.FitAnswer.{FitAnswer}
 use Rattle.sheet_rules.specs.declared.Reason.{Reason}
-use Rattle.sheet_rules.specs.declared.Reason.the-variants.{Misfit}
-use Rattle.type_rules.specs.Typing.{Fault, firstOf, unless}
+use Rattle.type_rules.specs.Typing.{Fault, firstOf}
 use Rattle.instr_typing.specs.declared.InstrJudged.{InstrJudged}
-use Rattle.instr_typing.specs.Told.{judgedOf}
+use Rattle.instr_typing.specs.Told.{judgedOf, fitJudged}
+use Rattle.instr_typing.proofs.InstrLaws.{good-none, good-row, refused-some}
+use Rattle.code_typing.specs.declared.Walked.{Walked}
+use Rattle.code_typing.specs.Walk.{walk}
 use Rattle.code_typing.specs.Told.{lastFault}
+use Rattle.code_typing.proofs.WalkLaws.{walk-none, walk-good, walk-bad}
 
--- an instruction that was judged good has no fault, and its slot has the row that the rule gives
-
-pub good-none : (f : Fault) (row a : ℕ) → judgedOf f row ≡ InstrJudged.Good a → f ≡ none
-good-none none row a e = refl
-good-none (some q) row a e = clash (cc)
-
-pub good-row : (f : Fault) (row a : ℕ) → judgedOf f row ≡ InstrJudged.Good a → a ≡ row
-good-row none row a e = cc
-good-row (some q) row a e = clash (cc)
-
-module _ (fit : ℕ → ℕ → Bool) (fault : Fault) (row : ℕ) (wanted : Option ℕ) (last : Bool) (judged : InstrJudged) (told : judged ≡ judgedOf fault row) where
+module _ (fit : ℕ → ℕ → FitAnswer) (fault : Fault) (row : ℕ) (wanted : Option ℕ) (last : Bool) (judged : InstrJudged) (told : judged ≡ judgedOf fault row) where
   abbrev whole : Option ℕ → Bool → InstrJudged
   whole x b = judgedOf (firstOf fault (lastFault fit x row b)) row
 
@@ -49,14 +44,13 @@ module _ (fit : ℕ → ℕ → Bool) (fault : Fault) (row : ℕ) (wanted : Opti
     pub line-free : wanted ≡ none → judged ≡ whole wanted last
     line-free e = good ∙ ap InstrJudged.Good (good-row fault row a (sym told ∙ good)) ∙ ends none e
 
-    module _ (d : ℕ) (declared : wanted ≡ some d) (t : Bool) (asked : t ≡ fit a d) where
-      fit-is : fit row d ≡ t
-      fit-is = ap (λ (x : ℕ). fit x d) (sym (good-row fault row a (sym told ∙ good))) ∙ sym asked
+    pub line-ends : (d : ℕ) → wanted ≡ some d → (x : InstrJudged) → x ≡ fitJudged (fit a d) a → x ≡ whole wanted last
+    line-ends d declared x ex = ex ∙ ap (λ (r : ℕ). fitJudged (fit r d) r) (good-row fault row a (sym told ∙ good)) ∙ ends (some d) declared
 
-      pub line-fits : t ≡ true → judged ≡ whole wanted last
-      line-fits e =
-          good ∙ ap InstrJudged.Good (good-row fault row a (sym told ∙ good))
-          ∙ sym (ap (λ (b : Bool). judgedOf (unless b Misfit) row) (fit-is ∙ e)) ∙ ends (some d) declared
+-- a line judged alone: the walk goes on to the next, or stops at it
 
-      pub line-misfit : t ≡ false → InstrJudged.Refused Misfit ≡ whole wanted last
-      line-misfit e = sym (ap (λ (b : Bool). judgedOf (unless b Misfit) row) (fit-is ∙ e)) ∙ ends (some d) declared
+pub judged-on : (n : ℕ) (f : Fault) (row a : ℕ) → judgedOf f row ≡ InstrJudged.Good a → Walked.On (n + 1) ≡ walk n (f ∷ [])
+judged-on n f row a e = sym (walk-none (n + 1)) ∙ walk-good n [] ∙ ap (λ (x : Fault). walk n (x ∷ [])) (sym (good-none f row a e))
+
+pub judged-stop : (n : ℕ) (f : Fault) (row : ℕ) (q : Reason) → judgedOf f row ≡ InstrJudged.Refused q → Walked.Stopped q n ≡ walk n (f ∷ [])
+judged-stop n f row q e = walk-bad n q [] ∙ ap (λ (x : Fault). walk n (x ∷ [])) (sym (refused-some f row q e))

@@ -37,14 +37,7 @@ fn judge_line(
         return judged;
     };
     match wanted {
-        FoundRow::Row { row: declared } => {
-            if instr_typing::fits(work, row, declared) {
-                return judged;
-            }
-            InstrJudged::Refused {
-                reason: Reason::Misfit,
-            }
-        }
+        FoundRow::Row { row: declared } => instr_typing::judge_fit(work, row, declared, row),
         FoundRow::Missing => judged,
     }
 }

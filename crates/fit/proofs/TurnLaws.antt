@@ -9,6 +9,7 @@ use lib.Dec.{T}
 use Rattle.sheet_rules.specs.declared.Member.{Member}
 use Rattle.sheet_rules.specs.RowLines.{nameOf, mentionsBelow}
 use Rattle.sheet_rules.specs.WellFormed.{WellFormedRow}
+use Rattle.type_rules.proofs.WalkLaws.{answerFrom}
 use Rattle.table.specs.Layout.{rowAddress}
 use Rattle.table.specs.View.{cell, memberIn, rowIn}
 use Rattle.fit.specs.Told.{firstBit, secondBit, tells, tellsBack, SelfFit, Alike, BothMatch, Walked}
@@ -73,7 +74,7 @@ module _ {w : List ℕ} {m k before : ℕ} where
 
     -- the walk ends: nothing is left to ask for either way
     pub ended : onward (tells w) w m k i j ≡ true → onward (tellsBack w) w k m j i ≡ true → Walked w m k before left
-    unfolding onward
+    unfolding onward answerFrom
     ended p q =
         record {
           within = g .within;
@@ -83,7 +84,7 @@ module _ {w : List ℕ} {m k before : ℕ} where
 
     -- or no answer is left
     pub spent : left ≡ 0 → Walked w m k before 0
-    unfolding onward
+    unfolding onward answerFrom
     spent e =
         record {
           within = omega arith;
@@ -94,7 +95,7 @@ module _ {w : List ℕ} {m k before : ℕ} where
   -- or one row has members left that the other lacks
   pub stopped : {i j left : ℕ} (found : ℕ) → Going w m k before i j left → onward (tells w) w m k i j ≡ firstBit found
       → onward (tellsBack w) w k m j i ≡ secondBit found → Walked w m k before (bitAnd left found)
-  unfolding onward
+  unfolding onward answerFrom
   stopped {i} {j} {left} found g p q =
       record {
         within = (let h = and-le-l left found in let l = g .within in omega arith);

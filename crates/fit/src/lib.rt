@@ -68,7 +68,7 @@ fn both_match(work: &[u16], x: Member, y: Member) -> u16
 }
 
 // The same for member i of row m and member j of row k.
-fn match_at(work: &[u16], m: usize, i: usize, k: usize, j: usize) -> u16
+pub fn match_at(work: &[u16], m: usize, i: usize, k: usize, j: usize) -> u16
     requires { ⌜ MatchAt (now work) m i k j ⌝ }
     ensures { λ r. ⌜ BothMatch (now (work .entry)) (memberIn (now (work .entry)) m i) (memberIn (now (work .entry)) k j) r ⌝ }
 {

@@ -7,20 +7,23 @@ use mathlib.Core.List.{List}
 use lib.Dec.{ltb}
 use lib.ListN.{length}
 use borrow.Author.Tests.{lt-ltb, le-ltb}
+use Rattle.sheet_rules.specs.declared.FitAnswer.{FitAnswer}
 use Rattle.sheet_rules.specs.declared.Reason.the-variants.{NotDefined}
+use Rattle.sheet_rules.specs.WellFormed.{WellFormed}
 use Rattle.type_rules.specs.declared.FitReply.{FitReply}
-use Rattle.type_rules.specs.Fit.{fits}
+use Rattle.type_rules.specs.Fit.{fitAnswer}
 use Rattle.type_rules.specs.FitQuestion.{fitIn}
 use Rattle.table.specs.Layout.{rowCountAt, workSize}
 use Rattle.table.specs.View.{cell, sheetIn}
 use Rattle.table.proofs.ViewLaws.{only-refl, only-widen}
 use Rattle.question.specs.Asked.{ToldAlone}
-use Rattle.fit.specs.Told.{tells, FitFilled}
-use Rattle.fit.proofs.SheetLaws.{sheet-tells}
+use Rattle.fit.specs.Told.{FitFilled}
+use Rattle.fit_answer.specs.Told.{answers}
+use Rattle.fit_answer.proofs.SheetLaws.{sheet-answers}
 
 module _ (a b : ℕ) (w : List ℕ) {rows : ℕ} (counted : rows ≡ length ((sheetIn w) .rows)) where
   answer : Bool → Bool → FitReply
-  answer x y = cond (x && y) (cond (fits ((sheetIn w) .rows) a b) FitReply.Fits FitReply.FitsNot) (FitReply.Refused NotDefined 0)
+  answer x y = cond (x && y) (FitReply.Answered (fitAnswer ((sheetIn w) .rows) a b)) (FitReply.Refused NotDefined 0)
 
   answer-no : (x : Bool) → answer x false ≡ FitReply.Refused NotDefined 0
   unfolding answer
@@ -51,19 +54,16 @@ module _ (a b : ℕ) (w : List ℕ) {rows : ℕ} (counted : rows ≡ length ((sh
       }
 
   module _ (ha : a < rows) (hb : b < rows) (counted-here : rows ≡ cell w rowCountAt) {w′ : List ℕ} (filled : FitFilled rows w w′) where
-    there : fitIn (sheetIn w) a b ≡ cond (tells w′ a b) FitReply.Fits FitReply.FitsNot
+    pub fit-told : WellFormed (sheetIn w) → {x : FitAnswer} → x ≡ answers w′ a b → ToldAlone (fitIn (sheetIn w) a b) w w′ (FitReply.Answered x)
     unfolding answer
-    there =
-        answer-in
-        ∙ ap (λ (x : Bool). answer x (ltb b (length ((sheetIn w) .rows)))) (lt-ltb a (length ((sheetIn w) .rows)) (omega arith))
-        ∙ ap (answer true) (lt-ltb b (length ((sheetIn w) .rows)) (omega arith))
-        ∙ ap (λ (x : Bool). cond x FitReply.Fits FitReply.FitsNot)
-        (sym (sheet-tells w w′ (subst (λ (n : ℕ). FitFilled n w w′) counted-here filled) a b (omega arith) (omega arith)))
-
-    pub fit-told : {t : Bool} → t ≡ tells w′ a b → {x : Bool} → t ≡ x → ToldAlone (fitIn (sheetIn w) a b) w w′ (cond x FitReply.Fits FitReply.FitsNot)
-    fit-told e {x} c =
+    fit-told well e =
         record {
-          same = sym (there ∙ ap (λ (y : Bool). cond y FitReply.Fits FitReply.FitsNot) (sym e ∙ c));
+          same =
+              sym
+              (answer-in
+              ∙ ap (λ (x : Bool). answer x (ltb b (length ((sheetIn w) .rows)))) (lt-ltb a (length ((sheetIn w) .rows)) (omega arith))
+              ∙ ap (answer true) (lt-ltb b (length ((sheetIn w) .rows)) (omega arith))
+              ∙ ap FitReply.Answered (sym (e ∙ sheet-answers w w′ (subst (λ (n : ℕ). FitFilled n w w′) counted-here filled) well a b (omega arith) (omega arith))));
           written = refl;
           only = only-widen (omega arith) (omega arith) (filled .only);
         }

@@ -1,19 +1,19 @@
-// The fit question: whether row a of a sheet fits row b.
+// The fit question: whether row a of a sheet fits row b, and what is lacking if not.
 ghost use Prim.Native.Nat.{_≤_};
 ghost use lib.ListN.{length};
-ghost use Rattle.sheet_rules.specs.WellFormed.{WellFormed};
 ghost use Rattle.type_rules.specs.FitQuestion.{fitIn, fitReply};
 ghost use Rattle.table.specs.Layout.{workSize};
 ghost use Rattle.table.specs.View.{sheetIn};
+ghost use Rattle.table.specs.Whole.{Whole};
 ghost use Rattle.question.specs.Asked.{ToldAlone};
 ghost use Rattle.fit_question.specs.Asked.{FitAsked};
 use sheet_rules::Reason;
 use sheet_rules::Verdict;
 use type_rules::FitReply;
 
-// Whether row a fits row b, for the sheet that the table holds.
+// Fit's answer on rows a and b, for the sheet that the table holds.
 fn reply_in(a: usize, b: usize, work: &mut [u16]) -> FitReply
-    requires { ⌜ (workSize ≤ length (now work)) × WellFormed (sheetIn (now work)) ⌝ }
+    requires { ⌜ Whole (now work) ⌝ }
     ensures { λ r. ⌜ ToldAlone (fitIn (sheetIn (now (work .entry))) a b) (now (work .entry)) (now (work .exit)) r ⌝ }
 {
     let rows = table::rows::row_count(work);
@@ -30,10 +30,9 @@ fn reply_in(a: usize, b: usize, work: &mut [u16]) -> FitReply
         };
     }
     fit::fill(work, rows);
-    if fit::fits_in(work, a, b) {
-        return FitReply::Fits;
+    FitReply::Answered {
+        answer: fit_answer::answer_in(work, a, b),
     }
-    FitReply::FitsNot
 }
 
 // The answer for a text, in a work buffer that is long enough.
@@ -47,7 +46,7 @@ fn reply(text: &[u8], a: usize, b: usize, work: &mut [u16]) -> FitReply
     }
 }
 
-// Whether row a of a text's sheet fits row b: yes, no, or a refusal from 1 to 7 with its line.
+// Fit's answer on rows a and b of a text's sheet, yes or what is lacking, or a refusal from 1 to 7 with its line.
 pub fn ask_fit(text: &[u8], a: usize, b: usize, work: &mut [u16]) -> FitReply
     ensures { λ r. ⌜ FitAsked (now (text .entry)) a b (now (work .entry)) (now (work .exit)) r ⌝ }
 {

@@ -2,11 +2,11 @@
 use Prim.Native.Nat.{ℕ, _+_, _≤_}
 use native.Mathlib.Omega.{arith}
 use mathlib.Core.Path.{_≡_, refl, sym, ap, ap₂, _∙_, subst}
-use mathlib.Core.Bool.{Bool}
 use mathlib.Core.List.{List, [], _∷_}
 use mathlib.Core.Option.{none, some}
 use lib.ListN.{length}
 use Rattle.lists.proofs.TabLaws.{tab-ext, length-tab}
+use Rattle.sheet_rules.specs.declared.FitAnswer.{FitAnswer}
 use Rattle.sheet_rules.specs.declared.Member.{Member}
 use Rattle.sheet_rules.specs.declared.Member.the-variants.{Method, Field}
 use Rattle.sheet_rules.specs.Sheet.{Instr, Part, body, Sheet, formAt}
@@ -17,12 +17,12 @@ use Rattle.table.specs.View.{instrIn, instrsIn, sheetIn}
 use Rattle.table.specs.declared.forms.PartPlace.{PartPlace}
 use Rattle.table.specs.Told.{slotRowsIn, partTold}
 use Rattle.table.proofs.ViewLaws.{only-refl, only-trans}
-use Rattle.fit.specs.Told.{tells}
+use Rattle.fit_answer.specs.Told.{answers}
 use Rattle.code_typing.specs.declared.Walked.{Walked}
 use Rattle.code_typing.specs.Walk.{walk}
 use Rattle.code_typing.specs.Told.{LinesJudged, CodeJudged, codeFaultsIn, codeSlotRows}
 use Rattle.code_typing.proofs.WalkLaws.{walk-none, walk-good}
-use Rattle.code_typing.proofs.CodeLaws.{slots-sheet, slots-instr, slots-tells}
+use Rattle.code_typing.proofs.CodeLaws.{slots-sheet, slots-instr, slots-answers}
 use Rattle.form_typing.specs.Told.{SlotsFilled, PlaceSmall, an-init, a-body, bodyFaults, bodySlotRows, partFaultsIn}
 
 -- a body's lines and slots, after its first slots were put in place
@@ -36,7 +36,7 @@ body-judged result start {f} {argument} {line} {w} {row} row-is {w₁} {filled} 
       slots = λ n e. subst (λ (rows : List ℕ). slotRowsIn w′ (length rows) ≡ rows) rows-are (k .slots n e);
     }
   where
-    faultsOf : (ℕ → ℕ → Bool) → Sheet → ℕ → List ℕ → List Instr → List Fault
+    faultsOf : (ℕ → ℕ → FitAnswer) → Sheet → ℕ → List ℕ → List Instr → List Fault
     faultsOf fit x a rows is = codeFaults (typedInstr fit x (some a) (some result)) x (some a) rows is
 
     instrs : instrsIn w₁ start count′ ≡ instrsIn w start count
@@ -45,7 +45,7 @@ body-judged result start {f} {argument} {line} {w} {row} row-is {w₁} {filled} 
         ∙ tab-ext (λ i. instrIn w₁ (start + i)) (λ i. instrIn w (start + i)) count (λ i h. slots-instr (s .only) (start + i))
 
     faults : none ∷ codeFaultsIn w₁ (some row) (some result) filled start count′ ≡ bodyFaults w f argument result start count
-    faults = λ x. none ∷ faultsOf (slots-tells (s .only) x) (slots-sheet (s .only) x) (row-is x) (s .rows x) (instrs x)
+    faults = λ x. none ∷ faultsOf (slots-answers (s .only) x) (slots-sheet (s .only) x) (row-is x) (s .rows x) (instrs x)
 
     slotsOf : Sheet → ℕ → List ℕ → List Instr → List ℕ
     slotsOf x a rows is = slotRows x (some a) rows is
@@ -63,7 +63,7 @@ module _ (f : ℕ) {line : ℕ} {w : List ℕ} {m : Member} {p : PartPlace} wher
   part-body em ep {w′} {x} k = subst (λ (fs : List Fault). LinesJudged fs line w w′ x) (part-by w f em ep) k
 
   pub part-init : {n r k : ℕ} → m ≡ Field n r → p ≡ PartPlace.Init k → {x : Walked}
-      → x ≡ walk line (initFault (tells w) (formAt (sheetIn w) f) r k ∷ []) → LinesJudged (partFaultsIn w f m p) line w w x
+      → x ≡ walk line (initFault (answers w) (formAt (sheetIn w) f) r k ∷ []) → LinesJudged (partFaultsIn w f m p) line w w x
   part-init em ep e =
       record {
         told = e ∙ ap (walk line) (part-by w f em ep);

@@ -3,7 +3,6 @@ use Prim.Native.Nat.{ℕ, suc, _+_, _*_, _≤_, _<_}
 use native.Mathlib.Omega.{arith}
 use native.Mathlib.Numerals.{add-one}
 use mathlib.Core.Path.{_≡_, refl, sym, ap, ap₂, _∙_}
-use mathlib.Core.Bool.{Bool}
 use mathlib.Core.List.{List, [], _∷_, _++_}
 use mathlib.Core.Option.{some}
 use lib.ListN.{length, getD, drop, drop-of-length-le, length-append}
@@ -11,6 +10,7 @@ use lib.Seq.{drop-cons}
 use Rattle.lists.specs.Pairwise.{Pairwise, none, pair}
 use Rattle.lists.proofs.PairwiseLaws.{pairwise-at}
 use Rattle.lists.proofs.TabLaws.{length-tab}
+use Rattle.sheet_rules.specs.declared.FitAnswer.{FitAnswer}
 use Rattle.sheet_rules.specs.declared.Member.{Member}
 use Rattle.sheet_rules.specs.declared.Member.the-variants.{Method, Field}
 use Rattle.sheet_rules.specs.declared.Reason.{Reason}
@@ -28,7 +28,7 @@ use Rattle.code_typing.specs.declared.Walked.{Walked}
 use Rattle.code_typing.specs.Walk.{walk, walkOn}
 use Rattle.code_typing.specs.Told.{judgeIn, instrJudgeIn, OnlySlots, LinesJudged}
 use Rattle.code_typing.proofs.WalkLaws.{walk-none, walk-append, walk-length}
-use Rattle.code_typing.proofs.CodeLaws.{slots-sheet, slots-tells, slots-whole}
+use Rattle.code_typing.proofs.CodeLaws.{slots-sheet, slots-answers, slots-whole}
 use Rattle.form_typing.specs.Told.{PlaceSmall, a-body, partFaultsIn, partsFaultsIn}
 use Rattle.form_typing.proofs.PartLaws.{place-small}
 
@@ -121,12 +121,12 @@ module _ {f first : ℕ} {w₀ w : List ℕ} {j line : ℕ} (g : PartsGoing f fi
       parts-small = place-small w p part-is (pairwise-at members (form .parts) j noMember (init 0) (parts-pairwise w₀ h f l) in-members)
 
       module _ {w′ : List ℕ} {r : Walked} (t : LinesJudged (partFaultsIn w f m p) line w w′ r) where
-        faultsOf : (ℕ → ℕ → Bool) → Sheet → Member → Part → List Fault
+        faultsOf : (ℕ → ℕ → FitAnswer) → Sheet → Member → Part → List Fault
         faultsOf fit s x y = partFaults (typedLines fit s) s f (formAt s f) x y
 
         here : partFaultsIn w f m p ≡ partFaults (judgeIn w₀) (sheetIn w₀) f form (getD members j noMember) (getD (form .parts) j (init 0))
         unfolding faultsOf
-        here = λ x. faultsOf (slots-tells (g .only) x) (slots-sheet (g .only) x) (member-is x) (part-is x)
+        here = λ x. faultsOf (slots-answers (g .only) x) (slots-sheet (g .only) x) (member-is x) (part-is x)
 
         abbrev rest : List Fault
         rest = faults (drop (suc j) members) (drop (suc j) (form .parts))

@@ -8,12 +8,13 @@ ghost use Rattle.sheet_rules.specs.Sheet.{rowAt, formAt};
 ghost use Rattle.type_rules.specs.Typing.{membersAt, initFault, isPure, hasField, formFault};
 ghost use Rattle.table.specs.View.{sheetIn};
 ghost use Rattle.table.specs.Whole.{Whole};
-ghost use Rattle.fit.specs.Told.{tells};
+ghost use Rattle.fit_answer.specs.Told.{answers};
 ghost use Rattle.code_typing.specs.Walk.{lineLimit, walk};
 ghost use Rattle.code_typing.specs.Told.{LinesJudged, CodeJudged};
 ghost use Rattle.form_typing.specs.Told.{KeepsPut, SlotsFilled, PlaceSmall, bodyFaults, bodySlotRows, partFaultsIn, partsFaultsIn, keepFaultsIn, formFaultsIn};
 use code_typing::Walked;
 use instr_typing::FoundRow;
+use instr_typing::InstrJudged;
 use sheet_rules::Kind;
 use sheet_rules::Member;
 use sheet_rules::Reason;
@@ -75,15 +76,12 @@ fn judge_body(
 // An `init` line of form f: the kept value fits the field's row.
 fn judge_init(work: &[u16], f: usize, kept: u16, row: u16, line: u32) -> Walked
     requires { ⌜ Whole (now work) × (line < lineLimit) ⌝ }
-    ensures { λ r. ⌜ r ≡ walk line (initFault (tells (now (work .entry))) (formAt (sheetIn (now (work .entry))) f) row kept ∷ []) ⌝ }
+    ensures { λ r. ⌜ r ≡ walk line (initFault (answers (now (work .entry))) (formAt (sheetIn (now (work .entry))) f) row kept ∷ []) ⌝ }
 {
     let given = table::forms::keep(work, f, wide(kept));
-    if instr_typing::fits(work, given, row) {
-        return Walked::On { line: line + 1 };
-    }
-    Walked::Stopped {
-        reason: Reason::Misfit,
-        line,
+    match instr_typing::judge_fit(work, given, row, row) {
+        InstrJudged::Good { .. } => Walked::On { line: line + 1 },
+        InstrJudged::Refused { reason } => Walked::Stopped { reason, line },
     }
 }
 

@@ -1,3 +1,3 @@
 pub mod FindLaws
-pub mod FitLaws
 pub mod InstrLaws
+pub mod SlotsLaws

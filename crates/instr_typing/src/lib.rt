@@ -2,16 +2,15 @@
 ghost use mathlib.Core.Path.{_≡_};
 ghost use mathlib.Core.List.{[], _∷_};
 ghost use Prim.Native.Nat.{_≤_};
-ghost use lib.ListN.{length, getD};
-ghost use Rattle.sheet_rules.specs.declared.Reason.the-variants.{Misfit};
-ghost use Rattle.sheet_rules.specs.Sheet.{formAt};
-ghost use Rattle.type_rules.specs.Typing.{methodIn, fieldIn, membersAt, ownField, allFit, unless};
-ghost use Rattle.table.specs.Layout.{workSize};
+ghost use lib.ListN.{getD};
+ghost use Rattle.type_rules.specs.Typing.{methodIn, fieldIn, membersAt, ownField};
 ghost use Rattle.table.specs.View.{instrIn, sheetIn};
 ghost use Rattle.table.specs.Told.{newSlots, slotRowsIn};
 ghost use Rattle.table.specs.Whole.{Whole};
-ghost use Rattle.fit.specs.Told.{tells};
-ghost use Rattle.instr_typing.specs.Told.{rowFound, methodFound, judgedOf, callJudged, getJudged, putJudged, instrJudged};
+ghost use Rattle.fit_answer.specs.Told.{answers};
+ghost use Rattle.instr_typing.specs.Told.{rowFound, methodFound, fitJudged, newJudged, callJudged, getJudged, putJudged, instrJudged};
+use sheet_rules::FitAnswer;
+use sheet_rules::Lack;
 use sheet_rules::Member;
 use sheet_rules::Reason;
 use table::instrs::Instruction;
@@ -116,54 +115,55 @@ fn own_field(work: &[u16], own: FoundRow, name: u16) -> FoundRow
     }
 }
 
-// A value of row a fits row b.
-pub fn fits(work: &[u16], a: u16, b: u16) -> bool
-    requires { ⌜ workSize ≤ length (now work) ⌝ }
-    ensures { λ r. ⌜ r ≡ tells (now (work .entry)) a b ⌝ }
+// A value of row `given` goes where row `wanted` is declared: the row of the slot that is filled then, or the misfit.
+pub fn judge_fit(work: &[u16], given: u16, wanted: u16, row: u16) -> InstrJudged
+    requires { ⌜ Whole (now work) ⌝ }
+    ensures { λ r. ⌜ r ≡ fitJudged (answers (now (work .entry)) given wanted) row ⌝ }
 {
-    fit::fits_in(work, wide(a), wide(b))
+    match fit_answer::answer_in(work, wide(given), wide(wanted)) {
+        FitAnswer::Yes => InstrJudged::Good { row },
+        FitAnswer::WrongKind => InstrJudged::Refused {
+            reason: Reason::Misfit {
+                lack: Lack::WrongKind,
+            },
+        },
+        FitAnswer::Unmet { name } => InstrJudged::Refused {
+            reason: Reason::Misfit {
+                lack: Lack::Unmet { name },
+            },
+        },
+    }
 }
 
-// A verdict on a value: the row of the slot that it fills, or a misfit.
-fn fitting(good: bool, row: u16) -> InstrJudged
-    ensures { λ r. ⌜ r ≡ judgedOf (unless good Misfit) row ⌝ }
-{
-    if good {
-        return InstrJudged::Good { row };
-    }
-    InstrJudged::Refused {
-        reason: Reason::Misfit,
-    }
-}
-
-// The slots of the `new` at place p fit the rows that its form keeps, one for one.
-fn slots_fit(work: &[u16], filled: usize, p: usize, form: usize) -> bool
+// The `new` at place p of an object of a form: one slot for each kept value, and then each slot fits.
+fn judge_new(work: &[u16], filled: usize, p: usize, form: usize) -> InstrJudged
     requires { ⌜ (filled ≤ 64) × Whole (now work) ⌝ }
-    ensures { λ r. ⌜ r ≡ allFit (tells (now (work .entry))) (slotRowsIn (now (work .entry)) filled) (newSlots (now (work .entry)) p) ((formAt (sheetIn (now (work .entry))) form) .keeps) ⌝ }
+    ensures { λ r. ⌜ r ≡ newJudged (now (work .entry)) filled (newSlots (now (work .entry)) p) form ⌝ }
 {
     let count = table::instrs::new_slot_count(work, p);
     if count != table::forms::keep_count(work, form) {
-        return false;
+        return InstrJudged::Refused {
+            reason: Reason::Misfit { lack: Lack::Count },
+        };
     }
+    let row = table::forms::form_row(work, form);
     let mut k = 0;
     while k < count {
         let v = wide(table::instrs::new_slot(work, p, k));
-        if !fits(
-            work,
-            table::instrs::slot_row(work, filled, v),
-            table::forms::keep(work, form, k),
-        ) {
-            return false;
-        }
+        let given = table::instrs::slot_row(work, filled, v);
+        let judged = judge_fit(work, given, table::forms::keep(work, form, k), row);
+        let InstrJudged::Good { .. } = judged else {
+            return judged;
+        };
         k = k + 1;
     }
-    true
+    InstrJudged::Good { row }
 }
 
 // `call`: the object's row has the method, and the argument fits.
 fn judge_call(work: &[u16], filled: usize, object: u16, name: u16, argument: u16) -> InstrJudged
     requires { ⌜ (filled ≤ 64) × Whole (now work) ⌝ }
-    ensures { λ r. ⌜ r ≡ callJudged (tells (now (work .entry))) (methodIn (membersAt (sheetIn (now (work .entry))) (getD (slotRowsIn (now (work .entry)) filled) object 0)) name) (getD (slotRowsIn (now (work .entry)) filled) argument 0) ⌝ }
+    ensures { λ r. ⌜ r ≡ callJudged (answers (now (work .entry))) (methodIn (membersAt (sheetIn (now (work .entry))) (getD (slotRowsIn (now (work .entry)) filled) object 0)) name) (getD (slotRowsIn (now (work .entry)) filled) argument 0) ⌝ }
 {
     let row = table::instrs::slot_row(work, filled, wide(object));
     match method_in(work, row, name) {
@@ -172,7 +172,7 @@ fn judge_call(work: &[u16], filled: usize, object: u16, name: u16, argument: u16
             result,
         } => {
             let given = table::instrs::slot_row(work, filled, wide(argument));
-            fitting(fits(work, given, wanted), result)
+            judge_fit(work, given, wanted, result)
         }
         FoundMethod::Missing => InstrJudged::Refused {
             reason: Reason::NoSuchMember,
@@ -196,10 +196,10 @@ fn judge_get(work: &[u16], own: FoundRow, name: u16) -> InstrJudged
 // `put`: the own object has the field, and the value, of a row, fits it.
 fn judge_put(work: &[u16], own: FoundRow, name: u16, given: u16) -> InstrJudged
     requires { ⌜ Whole (now work) ⌝ }
-    ensures { λ r. ⌜ r ≡ putJudged (tells (now (work .entry))) (ownField (sheetIn (now (work .entry))) (rowFound own) name) given ⌝ }
+    ensures { λ r. ⌜ r ≡ putJudged (answers (now (work .entry))) (ownField (sheetIn (now (work .entry))) (rowFound own) name) given ⌝ }
 {
     match own_field(work, own, name) {
-        FoundRow::Row { row } => fitting(fits(work, given, row), row),
+        FoundRow::Row { row } => judge_fit(work, given, row, row),
         FoundRow::Missing => InstrJudged::Refused {
             reason: Reason::NoSuchMember,
         },
@@ -212,13 +212,7 @@ pub fn judge_instr(work: &[u16], own: FoundRow, filled: usize, p: usize) -> Inst
     ensures { λ r. ⌜ r ≡ instrJudged (now (work .entry)) (rowFound own) filled (instrIn (now (work .entry)) p) ⌝ }
 {
     match table::instrs::instr_at(work, p) {
-        Instruction::New { form } => {
-            let f = wide(form);
-            fitting(
-                slots_fit(work, filled, p, f),
-                table::forms::form_row(work, f),
-            )
-        }
+        Instruction::New { form } => judge_new(work, filled, p, wide(form)),
         Instruction::Call {
             object,
             name,

@@ -11,8 +11,8 @@ use authority_question::report::ask_report;
 use authority_rules::ReportReply;
 use line_writer::put_line;
 use machine_rules::RunAnswer;
-use results::number_of;
-use results::outcome_number;
+use results::numbers::number_of;
+use results::numbers::outcome_number;
 use table::rows::wide;
 
 // Puts the refusal's number and its line, 0 and 0 of an accepted sheet; answers the place after them.

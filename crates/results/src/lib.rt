@@ -1,57 +1,71 @@
-// The questions' replies in numbers, as a caller in C has them, and the numbers of the refusals and outcomes.
+// The questions' replies in numbers, as a caller in C has them. Every result begins with the same four: a refusal's number and line,
+// and what is lacking, with the name if it is a member.
 ghost use mathlib.Core.Path.{_≡_};
-ghost use Rattle.sheet_rules.specs.Answers.{numberOf};
-ghost use Rattle.machine_rules.specs.Steps.{outcomeNumber};
-ghost use Rattle.results.specs.Results.{fitResult, verdictResult, runResult, authorityResult, countedResult, reportResult, formResult};
+ghost use Rattle.results.specs.Results.{answerResult, fitResult, verdictResult, runResult, authorityResult, countedResult, reportResult, formResult};
 use authority_rules::AuthorityReply;
 use authority_rules::ReportReply;
-use machine_rules::Outcome;
 use machine_rules::RunReply;
+use numbers::lack_of;
+use numbers::name_of;
+use numbers::number_of;
+use numbers::outcome_number;
+use sheet_rules::FitAnswer;
 use sheet_rules::FormReply;
-use sheet_rules::Reason;
 use sheet_rules::Verdict;
 use type_rules::FitReply;
 
-// The answer of the fit question.
+pub mod numbers;
+
+// The answer of the fit question: a refusal's numbers, or 0, 0, what is lacking, its name, and whether row a fits row b.
 #[repr(C)]
 pub struct FitResult {
     pub refusal: u32,
     pub line: u32,
+    pub lack: u32,
+    pub name: u32,
     pub fits: u32,
 }
 
-// The verdict on a sheet: 0 and 0, or a refusal's number and line.
+// The verdict on a sheet: four times 0, or a refusal's numbers.
 #[repr(C)]
 pub struct VerdictResult {
     pub refusal: u32,
     pub line: u32,
+    pub lack: u32,
+    pub name: u32,
 }
 
-// The run of a sheet: a refusal's number and line, or 0, 0 and the run's outcome, steps, value and number of objects.
+// The run of a sheet: a refusal's numbers, or four times 0 and the run's outcome, steps, value and number of objects.
 #[repr(C)]
 pub struct RunResult {
     pub refusal: u32,
     pub line: u32,
+    pub lack: u32,
+    pub name: u32,
     pub outcome: u32,
     pub steps: u32,
     pub value: u32,
     pub objects: u32,
 }
 
-// A holder's authority: a refusal's number and line, or 0, 0 and how many numbers were written.
+// A holder's authority: a refusal's numbers, or four times 0 and how many numbers were written.
 #[repr(C)]
 pub struct AuthorityResult {
     pub refusal: u32,
     pub line: u32,
+    pub lack: u32,
+    pub name: u32,
     pub count: u32,
 }
 
-// The report: a refusal's number and line, or 0, 0 and the run's outcome, steps, value and number of objects, and how many
-// numbers were written.
+// The report: a refusal's numbers, or four times 0 and the run's outcome, steps, value and number of objects, and how many numbers
+// were written.
 #[repr(C)]
 pub struct ReportResult {
     pub refusal: u32,
     pub line: u32,
+    pub lack: u32,
+    pub name: u32,
     pub outcome: u32,
     pub steps: u32,
     pub value: u32,
@@ -59,43 +73,43 @@ pub struct ReportResult {
     pub count: u32,
 }
 
-// One form's lines: a refusal's number and line, or 0, 0 and where the lines begin in the text and how many bytes they have.
+// One form's lines: a refusal's numbers, or four times 0 and where the lines begin in the text and how many bytes they have.
 #[repr(C)]
 pub struct FormResult {
     pub refusal: u32,
     pub line: u32,
+    pub lack: u32,
+    pub name: u32,
     pub start: usize,
     pub length: usize,
 }
 
-// The number of a refusal.
-pub fn number_of(reason: Reason) -> u32
-    ensures { λ r. ⌜ r ≡ numberOf reason ⌝ }
+// Fit's answer in numbers.
+fn answered(answer: FitAnswer) -> FitResult
+    ensures { λ r. ⌜ r ≡ answerResult answer ⌝ }
 {
-    match reason {
-        Reason::BufferTooShort => 1,
-        Reason::TextTooLong => 2,
-        Reason::Malformed => 3,
-        Reason::OutOfLimit => 4,
-        Reason::NotAscending => 5,
-        Reason::DuplicateRow => 6,
-        Reason::NotDefined => 7,
-        Reason::ImpureForm => 8,
-        Reason::NoSuchMember => 9,
-        Reason::Misfit => 10,
-        Reason::NoHolder => 11,
-    }
-}
-
-// The number of an outcome.
-pub fn outcome_number(outcome: Outcome) -> u32
-    ensures { λ r. ⌜ r ≡ outcomeNumber outcome ⌝ }
-{
-    match outcome {
-        Outcome::Done => 0,
-        Outcome::Spent => 1,
-        Outcome::StoreFull => 2,
-        Outcome::StackFull => 3,
+    match answer {
+        FitAnswer::Yes => FitResult {
+            refusal: 0,
+            line: 0,
+            lack: 0,
+            name: 0,
+            fits: 1,
+        },
+        FitAnswer::WrongKind => FitResult {
+            refusal: 0,
+            line: 0,
+            lack: 2,
+            name: 0,
+            fits: 0,
+        },
+        FitAnswer::Unmet { name } => FitResult {
+            refusal: 0,
+            line: 0,
+            lack: 3,
+            name: name as u32,
+            fits: 0,
+        },
     }
 }
 
@@ -104,19 +118,12 @@ pub fn fit_result(reply: FitReply) -> FitResult
     ensures { λ r. ⌜ r ≡ fitResult reply ⌝ }
 {
     match reply {
-        FitReply::Fits => FitResult {
-            refusal: 0,
-            line: 0,
-            fits: 1,
-        },
-        FitReply::FitsNot => FitResult {
-            refusal: 0,
-            line: 0,
-            fits: 0,
-        },
+        FitReply::Answered { answer } => answered(answer),
         FitReply::Refused { reason, line } => FitResult {
             refusal: number_of(reason),
             line,
+            lack: lack_of(reason),
+            name: name_of(reason),
             fits: 0,
         },
     }
@@ -130,10 +137,14 @@ pub fn verdict_result(given: Verdict) -> VerdictResult
         Verdict::Accepted => VerdictResult {
             refusal: 0,
             line: 0,
+            lack: 0,
+            name: 0,
         },
         Verdict::Refused { reason, line } => VerdictResult {
             refusal: number_of(reason),
             line,
+            lack: lack_of(reason),
+            name: name_of(reason),
         },
     }
 }
@@ -148,6 +159,8 @@ pub fn run_result(reply: RunReply) -> RunResult
             RunResult {
                 refusal: 0,
                 line: 0,
+                lack: 0,
+                name: 0,
                 outcome: outcome_number(outcome),
                 steps: answer.steps,
                 value: answer.value as u32,
@@ -157,6 +170,8 @@ pub fn run_result(reply: RunReply) -> RunResult
         RunReply::Refused { reason, line } => RunResult {
             refusal: number_of(reason),
             line,
+            lack: lack_of(reason),
+            name: name_of(reason),
             outcome: 0,
             steps: 0,
             value: 0,
@@ -173,11 +188,15 @@ pub fn authority_result(reply: AuthorityReply) -> AuthorityResult
         AuthorityReply::Holds { count } => AuthorityResult {
             refusal: 0,
             line: 0,
+            lack: 0,
+            name: 0,
             count: count as u32,
         },
         AuthorityReply::Refused { reason, line } => AuthorityResult {
             refusal: number_of(reason),
             line,
+            lack: lack_of(reason),
+            name: name_of(reason),
             count: 0,
         },
     }
@@ -190,6 +209,8 @@ fn counted(run: RunResult, count: u32) -> ReportResult
     ReportResult {
         refusal: run.refusal,
         line: run.line,
+        lack: run.lack,
+        name: run.name,
         outcome: run.outcome,
         steps: run.steps,
         value: run.value,
@@ -220,12 +241,16 @@ pub fn form_result(reply: FormReply) -> FormResult
         FormReply::Lines { start, length } => FormResult {
             refusal: 0,
             line: 0,
+            lack: 0,
+            name: 0,
             start,
             length,
         },
         FormReply::Refused { reason, line } => FormResult {
             refusal: number_of(reason),
             line,
+            lack: lack_of(reason),
+            name: name_of(reason),
             start: 0,
             length: 0,
         },

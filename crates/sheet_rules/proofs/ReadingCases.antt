@@ -7,6 +7,7 @@ use mathlib.Core.Bool.{cond}
 use mathlib.Core.List.{List, [], _∷_, _++_, map}
 use lib.Dec.{ltb}
 use lib.ListN.{length, take, replicate}
+use Rattle.sheet_rules.specs.declared.Lack.{Lack}
 use Rattle.sheet_rules.specs.declared.Reason.the-variants.{BufferTooShort, TextTooLong, Malformed, OutOfLimit, NotAscending, DuplicateRow, NotDefined, ImpureForm, NoSuchMember, Misfit, NoHolder}
 use Rattle.sheet_rules.specs.Answers.{numberOf}
 use Rattle.sheet_rules.specs.Keys.{bytes}
@@ -177,6 +178,6 @@ all-64 = refl
 -- THE NUMBERS OF THE REFUSALS
 
 pub numbered :
-    map numberOf (BufferTooShort ∷ TextTooLong ∷ Malformed ∷ OutOfLimit ∷ NotAscending ∷ DuplicateRow ∷ NotDefined ∷ ImpureForm ∷ NoSuchMember ∷ Misfit ∷ NoHolder ∷ [])
+    map numberOf (BufferTooShort ∷ TextTooLong ∷ Malformed ∷ OutOfLimit ∷ NotAscending ∷ DuplicateRow ∷ NotDefined ∷ ImpureForm ∷ NoSuchMember ∷ Misfit Lack.Count ∷ NoHolder ∷ [])
     ≡ 1 ∷ 2 ∷ 3 ∷ 4 ∷ 5 ∷ 6 ∷ 7 ∷ 8 ∷ 9 ∷ 10 ∷ 11 ∷ []
 numbered = refl

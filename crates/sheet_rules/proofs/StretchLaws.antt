@@ -100,7 +100,7 @@ number-some DuplicateRow = omega arith
 number-some NotDefined = omega arith
 number-some ImpureForm = omega arith
 number-some NoSuchMember = omega arith
-number-some Misfit = omega arith
+number-some (Misfit l) = omega arith
 number-some NoHolder = omega arith
 
 -- in a sheet: the form is there, or not

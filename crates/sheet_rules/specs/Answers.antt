@@ -1,6 +1,9 @@
--- The paper's numbers for the answers that are enums (document 01, Turned away; Fit and typing). Stands on the shared types.
+-- The paper's numbers for the answers that are enums (document 01, Turned away; Fit and typing; document 02, order 3). Stands on the
+-- shared types.
 use Prim.Native.Nat.{ℕ}
 use mathlib.Core.Bool.{Bool, true, false}
+use mathlib.Core.Option.{Option, none, some}
+use Rattle.sheet_rules.specs.declared.Lack.{Lack}
 use Rattle.sheet_rules.specs.declared.Reason.{Reason}
 use Rattle.sheet_rules.specs.declared.Reason.the-variants.{BufferTooShort, TextTooLong, Malformed, OutOfLimit, NotAscending, DuplicateRow, NotDefined, ImpureForm, NoSuchMember, Misfit, NoHolder}
 use Rattle.sheet_rules.specs.declared.Verdict.{Verdict}
@@ -29,7 +32,7 @@ numberOf ImpureForm = 8
 -- no such part
 numberOf NoSuchMember = 9
 -- misfit
-numberOf Misfit = 10
+numberOf (Misfit l) = 10
 -- no holder
 numberOf NoHolder = 11
 
@@ -42,6 +45,45 @@ verdictNumber (Refused r n) = numberOf r
 abbrev pub verdictLine : Verdict → ℕ
 verdictLine Accepted = 0
 verdictLine (Refused r n) = n
+
+-- what is lacking by a refusal: only a misfit says it (document 02, order 3)
+abbrev pub reasonLack : Reason → Option Lack
+reasonLack BufferTooShort = none
+reasonLack TextTooLong = none
+reasonLack Malformed = none
+reasonLack OutOfLimit = none
+reasonLack NotAscending = none
+reasonLack DuplicateRow = none
+reasonLack NotDefined = none
+reasonLack ImpureForm = none
+reasonLack NoSuchMember = none
+reasonLack (Misfit l) = some l
+reasonLack NoHolder = none
+
+-- what is lacking by a verdict (document 02, order 3)
+abbrev pub verdictLack : Verdict → Option Lack
+verdictLack Accepted = none
+verdictLack (Refused r n) = reasonLack r
+
+-- what is lacking by an answer of fit: nothing by yes, and never a count (document 02, order 3)
+abbrev pub answerLack : FitAnswer → Option Lack
+answerLack Yes = none
+answerLack WrongKind = some Lack.WrongKind
+answerLack (Unmet n) = some (Lack.Unmet n)
+
+-- what is lacking as a number: 0 nothing, 1 count, 2 kind, 3 a member (document 02, order 3)
+abbrev pub lackNumber : Option Lack → ℕ
+lackNumber none = 0
+lackNumber (some Lack.Count) = 1
+lackNumber (some Lack.WrongKind) = 2
+lackNumber (some (Lack.Unmet n)) = 3
+
+-- and the member's name, 0 where it is none (document 02, order 3)
+abbrev pub lackName : Option Lack → ℕ
+lackName none = 0
+lackName (some Lack.Count) = 0
+lackName (some Lack.WrongKind) = 0
+lackName (some (Lack.Unmet n)) = n
 
 -- a row fits another when the answer is yes (Turned away)
 abbrev pub isYes : FitAnswer → Bool

@@ -4,17 +4,19 @@ use Prim.Native.Nat.{ℕ, suc, _+_, _<_}
 use mathlib.Core.Path.{_≡_}
 use mathlib.Core.Bool.{Bool, true, false, cond, _&&_, _||_}
 use mathlib.Core.List.{List, [], _∷_, _++_, flatten}
+use mathlib.Core.Option.{Option, none}
 use lib.Dec.{eqb, ltb}
 use lib.ListN.{length, take, drop}
 use Rattle.lists.specs.BeforeNth.{beforeNth}
 use Rattle.sheet_rules.specs.declared.FormReply.{FormReply}
 use Rattle.sheet_rules.specs.declared.FormReply.the-variants.{Lines, Refused}
+use Rattle.sheet_rules.specs.declared.Lack.{Lack}
 use Rattle.sheet_rules.specs.declared.Place.{Place}
 use Rattle.sheet_rules.specs.declared.Reason.the-variants.{NotDefined}
 use Rattle.sheet_rules.specs.Lines.{newline, inFront, Line}
 use Rattle.sheet_rules.specs.Sheet.{Sheet, formAt}
 use Rattle.sheet_rules.specs.Reading.{Meaning, readable, unreadable, meaning}
-use Rattle.sheet_rules.specs.Answers.{numberOf}
+use Rattle.sheet_rules.specs.Answers.{numberOf, reasonLack}
 use Rattle.sheet_rules.specs.Print.{formWritten, formsWritten, beforeForms, afterForms, keyText, linesBytes}
 
 -- the lines of a text as they stand in it, each with the byte 10 that ends it (order 2)
@@ -66,6 +68,11 @@ replyNumber (Refused r n) = numberOf r
 abbrev pub replyLine : FormReply → ℕ
 replyLine (Lines start length) = 0
 replyLine (Refused r n) = n
+
+-- what is lacking by a reply; the question stops after reading, so it never is a misfit (document 02, order 3)
+abbrev pub replyLack : FormReply → Option Lack
+replyLack (Lines start length) = none
+replyLack (Refused r n) = reasonLack r
 
 -- where the part that is given begins in the text; after a refusal it is the empty part at the text's start (order 2)
 abbrev pub stretchStart : FormReply → ℕ

@@ -49,7 +49,15 @@ pub enum Place {
     Nowhere,
 }
 
-// Why a call is refused, in the order of the paper's numbers 1 to 11.
+// What is lacking where a value does not fit: one slot for each kept value; the kind, a resource where pure is asked; or a match for
+// a member, with its name.
+pub enum Lack {
+    Count,
+    WrongKind,
+    Unmet { name: u16 },
+}
+
+// Why a call is refused, in the order of the paper's numbers 1 to 11. A misfit says what is lacking.
 pub enum Reason {
     BufferTooShort,
     TextTooLong,
@@ -60,7 +68,7 @@ pub enum Reason {
     NotDefined,
     ImpureForm,
     NoSuchMember,
-    Misfit,
+    Misfit { lack: Lack },
     NoHolder,
 }
 

@@ -1,5 +1,5 @@
--- Two fit tests that agree on the rows of a sheet find the same faults: typing asks about no row that is not there. So code may
--- stand on a table of answers for these rows alone. Assumes nothing.
+-- Two tests of fit that agree on the rows of a sheet find the same faults: typing asks about no row that is not there. So code may
+-- stand on a table for these rows alone. Assumes nothing.
 use Prim.Native.Nat.{ℕ, suc, _≤_, _<_}
 use native.Mathlib.Omega.{arith}
 use native.Mathlib.Decide.{decLe}
@@ -13,13 +13,15 @@ use lib.ListN.{length, getD, List·getD-eq-default}
 use Rattle.lists.specs.In.{In, here, there}
 use Rattle.lists.proofs.InLaws.{in-nil, in-snoc, in-getD}
 use Rattle.lists.proofs.Tests.{and-left, and-right, and-intro}
+use Rattle.sheet_rules.specs.declared.FitAnswer.{FitAnswer}
+use Rattle.sheet_rules.specs.declared.Lack.{Lack}
 use Rattle.sheet_rules.specs.declared.Member.{Member}
 use Rattle.sheet_rules.specs.declared.Member.the-variants.{Method, Field}
 use Rattle.sheet_rules.specs.declared.Reason.the-variants.{Misfit}
 use Rattle.sheet_rules.specs.Sheet.{Row, Instr, new, call, get, put, copy, Part, init, body, Form, Sheet, noRow, noForm, formAt}
 use Rattle.sheet_rules.specs.RowLines.{mentionsBelow}
 use Rattle.sheet_rules.specs.WellFormed.{Mentions, WellFormed}
-use Rattle.type_rules.specs.Typing.{Signature, methodIn, fieldIn, membersAt, Own, ownField, resultOf, rowOr0, slotRow, bodyRows, mainRows, Fault, unless, firstOf, allFit, callFault, putFault, instrFault, resultFault, codeFaults, partFaults, partsFaults, keepFaults, formFaults, formsFaults, lineFaults, typedInstr, typedLines}
+use Rattle.type_rules.specs.Typing.{Signature, methodIn, fieldIn, membersAt, Own, ownField, resultOf, rowOr0, slotRow, bodyRows, mainRows, Fault, unless, firstOf, fitFault, slotsFault, callFault, putFault, instrFault, resultFault, codeFaults, partFaults, partsFaults, keepFaults, formFaults, formsFaults, lineFaults, typedInstr, typedLines}
 use Rattle.type_rules.proofs.TypingLaws.{result-row}
 
 -- what holds of a list's elements, and of what stands in where there is none, holds of all that is looked up
@@ -115,17 +117,16 @@ module _ {s : Sheet} (w : WellFormed s) where
 
   -- TESTS THAT AGREE
 
-  module _ {f g : ℕ → ℕ → Bool} (agree : (a b : ℕ) → a < length (s .rows) → b < length (s .rows) → f a b ≡ g a b) where
-    fit-agree : (a b : ℕ) → Here a → Here b → unless (f a b) Misfit ≡ unless (g a b) Misfit
-    fit-agree a b p q = ap (λ (t : Bool). unless t Misfit) (agree a b p q)
+  module _ {f g : ℕ → ℕ → FitAnswer} (agree : (a b : ℕ) → a < length (s .rows) → b < length (s .rows) → f a b ≡ g a b) where
+    fit-agree : (a b : ℕ) → Here a → Here b → fitFault (f a b) ≡ fitFault (g a b)
+    fit-agree a b p q = ap fitFault (agree a b p q)
 
-    allFit-agree : (rows : List ℕ) → AllHere rows → (vs bs : List ℕ) → AllHere bs → allFit f rows vs bs ≡ allFit g rows vs bs
-    unfolding allFit
-    allFit-agree rows all [] [] h = refl
-    allFit-agree rows all [] (b ∷ bs) h = refl
-    allFit-agree rows all (v ∷ vs) [] h = refl
-    allFit-agree rows all (v ∷ vs) (b ∷ bs) h =
-        ap₂ _&&_ (agree (getD rows v 0) b (here-at rows all v) (h b (here refl))) (allFit-agree rows all vs bs (λ a i. h a (there i)))
+    slots-agree : (rows : List ℕ) → AllHere rows → (vs bs : List ℕ) → AllHere bs → slotsFault f rows vs bs ≡ slotsFault g rows vs bs
+    unfolding slotsFault
+    slots-agree rows all [] bs h = refl
+    slots-agree rows all (v ∷ vs) [] h = refl
+    slots-agree rows all (v ∷ vs) (b ∷ bs) h =
+        ap₂ firstOf (fit-agree (getD rows v 0) b (here-at rows all v) (h b (here refl))) (slots-agree rows all vs bs (λ a i. h a (there i)))
 
     call-agree : (m : Option Signature) (a : ℕ) → Here (argumentOf m) → Here a → callFault f m a ≡ callFault g m a
     call-agree none a p q = refl
@@ -136,7 +137,9 @@ module _ {s : Sheet} (w : WellFormed s) where
     put-agree (some r) a p q = fit-agree a r q p
 
     instr-agree : (own : Own) (rows : List ℕ) → AllHere rows → (i : Instr) → instrFault f s own rows i ≡ instrFault g s own rows i
-    instr-agree own rows all (new k ss) = ap (λ (t : Bool). unless t Misfit) (allFit-agree rows all ss ((formAt s k) .keeps) (form-here k .1))
+    instr-agree own rows all (new k ss) =
+        let bs : List ℕ = (formAt s k) .keeps in
+        ap (firstOf (unless (eqb (length ss) (length bs)) (Misfit Lack.Count))) (slots-agree rows all ss bs (form-here k .1))
     instr-agree own rows all (call o n a) =
         call-agree (methodIn (membersAt s (getD rows o 0)) n) (getD rows a 0) (method-here (membersAt s (getD rows o 0)) (members-here (getD rows o 0)) n .0) (here-at rows all a)
     instr-agree own rows all (get n) = refl

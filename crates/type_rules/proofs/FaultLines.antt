@@ -24,7 +24,7 @@ use Rattle.sheet_rules.specs.WellFormed.{PartOf, field, method, WellFormed}
 use Rattle.sheet_rules.specs.Print.{memberWritten, rowWritten, rowsWritten, instrWritten, partWritten, partsWritten, keepWritten, formWritten, formsWritten, beforeForms, afterForms}
 use Rattle.sheet_rules.proofs.ReadingLaws.{readable-wellFormed}
 use Rattle.sheet_rules.proofs.RoundTrip.{readable-lines}
-use Rattle.type_rules.specs.Fit.{fits}
+use Rattle.type_rules.specs.Fit.{fitAnswer}
 use Rattle.type_rules.specs.Typing.{Own, membersAt, bodyRows, mainRows, Fault, rowsAfter, InstrJudge, LineJudge, codeFaults, partFaults, partsFaults, formFaults, formsFaults, lineFaults, typedLines, firstFault, rowLines, firstFormLine, typing}
 
 -- form f is number n of the sheet's
@@ -132,6 +132,6 @@ fault-line {judge} text {s} e {r} {n} t =
 
 -- and so where typing refuses
 pub refused-line : (text : List ℕ) {s : Sheet} → meaning text ≡ readable s → {r : Reason} {n : ℕ} → typing s ≡ Refused r n
-    → FaultOf (typedLines (fits (s .rows)) s) s (some r) (getD (linesOf text) (pred n) torn)
+    → FaultOf (typedLines (fitAnswer (s .rows)) s) s (some r) (getD (linesOf text) (pred n) torn)
 unfolding typing
 refused-line text e t = fault-line text e t

@@ -1,6 +1,8 @@
 pub mod Opened
 pub mod TypingCases
 pub mod FitLaws
+pub mod AnswerLaws
+pub mod WalkLaws
 pub mod TypingLaws
 pub mod LookUpLaws
 pub mod TypedLaws

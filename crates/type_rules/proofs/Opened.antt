@@ -2,9 +2,9 @@
 -- computed from the rules names it alone. Proves nothing.
 use Rattle.type_rules.specs.Fit.{hasMatch, membersAnswer, fitUpTo, fitAnswer, fits}
 use Rattle.type_rules.specs.FitQuestion.{fitReply}
-use Rattle.type_rules.specs.Typing.{methodIn, fieldIn, slotRows, allFit, hasField, codeFaults, partsFaults, formsFaults, lineFaults, firstFault, rowLines, typing, verdict}
+use Rattle.type_rules.specs.Typing.{methodIn, fieldIn, slotRows, slotsFault, hasField, codeFaults, partsFaults, formsFaults, lineFaults, firstFault, rowLines, typing, verdict}
 use Rattle.sheet_rules.proofs.Opened.{reading}
 
 unfoldable pub judging : Unit {0}
-unfolding hasMatch membersAnswer fitUpTo fitAnswer fits fitReply methodIn fieldIn slotRows allFit hasField codeFaults partsFaults formsFaults lineFaults firstFault rowLines typing verdict reading
+unfolding hasMatch membersAnswer fitUpTo fitAnswer fits fitReply methodIn fieldIn slotRows slotsFault hasField codeFaults partsFaults formsFaults lineFaults firstFault rowLines typing verdict reading
 judging = tt

@@ -7,21 +7,27 @@ use mathlib.Core.List.{List, [], _∷_, _++_, map}
 use mathlib.Core.Option.{Option, none, some}
 use mathlib.Core.Logic.{_⊎_, inl, inr, _↔_}
 use lib.Dec.{T}
-use lib.ListN.{getD}
+use lib.ListN.{length, getD}
+use borrow.Author.Tests.{eq-eqb}
 use Rattle.lists.specs.In.{In, here, there}
 use Rattle.lists.specs.Pairwise.{Pairwise, pair}
 use Rattle.lists.proofs.InLaws.{in-nil, in-cases}
+use Rattle.lists.proofs.PairwiseLaws.{pairwise-length}
 use Rattle.lists.proofs.Tests.{and-intro, T→true}
+use Rattle.sheet_rules.specs.declared.FitAnswer.{FitAnswer}
+use Rattle.sheet_rules.specs.declared.FitAnswer.the-variants.{Yes, WrongKind, Unmet}
+use Rattle.sheet_rules.specs.declared.Lack.{Lack}
 use Rattle.sheet_rules.specs.declared.Member.{Member}
 use Rattle.sheet_rules.specs.declared.Reason.{Reason}
 use Rattle.sheet_rules.specs.declared.Reason.the-variants.{ImpureForm, Misfit}
 use Rattle.sheet_rules.specs.declared.Verdict.the-variants.{Accepted}
+use Rattle.sheet_rules.specs.Answers.{isYes}
 use Rattle.sheet_rules.specs.Sheet.{Row, Instr, Part, Form, Sheet, rowAt, formAt}
 use Rattle.sheet_rules.specs.Reading.{readable, meaning}
 use Rattle.sheet_rules.specs.WellFormed.{WellFormed}
 use Rattle.sheet_rules.proofs.ReadingLaws.{readable-wellFormed}
-use Rattle.type_rules.specs.Fit.{fits}
-use Rattle.type_rules.specs.Typing.{Own, resultOf, rowOr0, slotRow, slotRows, lastRow, mainRows, Fault, unless, firstOf, allFit, callFault, getFault, putFault, instrFault, resultFault, isPure, hasField, keepFault, LineJudge, codeFaults, partFaults, partsFaults, keepFaults, formFaults, formsFaults, lineFaults, typedInstr, typedLines, firstFault, firstFormLine, typing, verdictOn, verdict}
+use Rattle.type_rules.specs.Fit.{fitAnswer, fits}
+use Rattle.type_rules.specs.Typing.{Own, resultOf, rowOr0, slotRow, slotRows, lastRow, mainRows, Fault, unless, firstOf, fitFault, slotsFault, newFault, callFault, getFault, putFault, instrFault, resultFault, isPure, hasField, keepFault, LineJudge, codeFaults, partFaults, partsFaults, keepFaults, formFaults, formsFaults, lineFaults, typedInstr, typedLines, firstFault, firstFormLine, typing, verdictOn, verdict}
 use Rattle.type_rules.specs.Typed.{SlotFits, InstrTyped, typed-new, typed-call, typed-get, typed-put, typed-copy, ResultFits, undeclared, declared, CodeTyped, end, next, PartTyped, typed-init, typed-body, FormTyped, Typed}
 use Rattle.type_rules.proofs.TypingLaws.{Faultless, lastRow-snoc, result-row, accepted-typed}
 
@@ -50,57 +56,73 @@ firstFault-accepts n (g ∷ gs) h = go g (h g (here refl)) (firstFault-accepts (
 passed : (b : Bool) (r : Reason) → T b → unless b r ≡ none
 passed b r t = ap (λ (x : Bool). unless x r) (T→true b t)
 
+answer-passes : (x : FitAnswer) → T (isYes x) → fitFault x ≡ none
+answer-passes Yes t = refl
+answer-passes WrongKind t = absurd t
+answer-passes (Unmet n) t = absurd t
+
 module _ (s : Sheet) where
   -- typing's judge of the sheet's lines
   abbrev ofTyping : LineJudge
-  ofTyping = typedLines (fits (s .rows)) s
+  ofTyping = typedLines (fitAnswer (s .rows)) s
 
-  fit-slots : {rows ss bs : List ℕ} → Pairwise (SlotFits s rows) ss bs → T (allFit (fits (s .rows)) rows ss bs)
-  unfolding allFit
-  fit-slots Pairwise.none = tt
-  fit-slots {rows} (pair {x = v} {y = b} f p) = and-intro (fits (s .rows) (getD rows v 0) b) _ (f .fit) (fit-slots p)
+  fit-passes : (a b : ℕ) → T (fits (s .rows) a b) → fitFault (fitAnswer (s .rows) a b) ≡ none
+  unfolding fits
+  fit-passes a b t = answer-passes (fitAnswer (s .rows) a b) t
+
+  slots-faultless : {rows ss bs : List ℕ} → Pairwise (SlotFits s rows) ss bs → slotsFault (fitAnswer (s .rows)) rows ss bs ≡ none
+  unfolding slotsFault
+  slots-faultless Pairwise.none = refl
+  slots-faultless {rows} (pair {x = v} {y = b} {xs = ss} {ys = bs} f p) =
+      ap (λ (x : Fault). firstOf x (slotsFault (fitAnswer (s .rows)) rows ss bs)) (fit-passes (getD rows v 0) b (f .fit)) ∙ slots-faultless p
+
+  new-faultless : (rows ss bs : List ℕ) → Pairwise (SlotFits s rows) ss bs → newFault (fitAnswer (s .rows)) rows ss bs ≡ none
+  new-faultless rows ss bs p =
+      ap (λ (x : Fault). firstOf x (slotsFault (fitAnswer (s .rows)) rows ss bs))
+      (ap (λ (t : Bool). unless t (Misfit Lack.Count)) (eq-eqb (length ss) (length bs) (pairwise-length p)))
+      ∙ slots-faultless p
 
   -- a well-typed instruction has no fault, and its slot has the row that the rule gives
   instr-faultless : {own : Own} {rows : List ℕ} {i : Instr} {a : ℕ} → InstrTyped s own rows i a
-      → (instrFault (fits (s .rows)) s own rows i ≡ none) × (slotRow s own rows i ≡ a)
-  instr-faultless {rows = rows} (typed-new {f = f} {ss = ss} h p) = (passed (allFit (fits (s .rows)) rows ss ((formAt s f) .keeps)) Misfit (fit-slots p), refl)
+      → (instrFault (fitAnswer (s .rows)) s own rows i ≡ none) × (slotRow s own rows i ≡ a)
+  instr-faultless {rows = rows} (typed-new {f = f} {ss = ss} h p) = (new-faultless rows ss ((formAt s f) .keeps) p, refl)
   instr-faultless {rows = rows} (typed-call {a = a} {m = m} h e f) = (
-    ap (λ x. callFault (fits (s .rows)) x (getD rows a 0)) e ∙ passed (fits (s .rows) (getD rows a 0) (m .argument)) Misfit (f .fit),
+    ap (λ x. callFault (fitAnswer (s .rows)) x (getD rows a 0)) e ∙ fit-passes (getD rows a 0) (m .argument) (f .fit),
     ap resultOf e,
   )
   instr-faultless (typed-get e) = (ap getFault e, ap rowOr0 e)
   instr-faultless {rows = rows} (typed-put {v = v} {r = r} e f) = (
-    ap (λ x. putFault (fits (s .rows)) x (getD rows v 0)) e ∙ passed (fits (s .rows) (getD rows v 0) r) Misfit (f .fit),
+    ap (λ x. putFault (fitAnswer (s .rows)) x (getD rows v 0)) e ∙ fit-passes (getD rows v 0) r (f .fit),
     ap rowOr0 e,
   )
   instr-faultless (typed-copy h) = (refl, refl)
 
-  result-faultless : (result : Option ℕ) (a : ℕ) → ResultFits s a result → resultFault (fits (s .rows)) result a [] ≡ none
+  result-faultless : (result : Option ℕ) (a : ℕ) → ResultFits s a result → resultFault (fitAnswer (s .rows)) result a [] ≡ none
   result-faultless none a undeclared = refl
-  result-faultless (some r) a (declared f) = passed (fits (s .rows) a r) Misfit f
+  result-faultless (some r) a (declared f) = fit-passes a r f
 
-  later-faultless : (result : Option ℕ) (a : ℕ) (i : Instr) (is : List Instr) → resultFault (fits (s .rows)) result a (i ∷ is) ≡ none
+  later-faultless : (result : Option ℕ) (a : ℕ) (i : Instr) (is : List Instr) → resultFault (fitAnswer (s .rows)) result a (i ∷ is) ≡ none
   later-faultless none a i is = refl
   later-faultless (some r) a i is = refl
 
   -- the result is judged on the last line alone
   last-faultless : {own : Own} {result : Option ℕ} (rows : List ℕ) (a : ℕ) (is : List Instr) → CodeTyped s own result (rows ++ (a ∷ [])) is
-      → resultFault (fits (s .rows)) result a is ≡ none
+      → resultFault (fitAnswer (s .rows)) result a is ≡ none
   last-faultless {result = result} rows a [] (end h r) =
       result-faultless result a (subst (λ (x : ℕ). ResultFits s x result) (lastRow-snoc rows a) r)
   last-faultless {result = result} rows a (i ∷ is) c = later-faultless result a i is
 
   code-faultless : {own : Own} {result : Option ℕ} {rows : List ℕ} {is : List Instr} → CodeTyped s own result rows is
-      → Faultless (codeFaults (typedInstr (fits (s .rows)) s own result) s own rows is)
+      → Faultless (codeFaults (typedInstr (fitAnswer (s .rows)) s own result) s own rows is)
   unfolding codeFaults
   code-faultless (end h r) = λ x i. absurd (in-nil i)
   code-faultless {own} {result} {rows} (next {i = i} {is = is} {a = a} h c) =
       let e = instr-faultless h in
       faultless-cons
-      (ap (λ (x : Fault). firstOf x (resultFault (fits (s .rows)) result (lastRow (slotRows s own rows (i ∷ is))) is)) (e .0)
-      ∙ result-row (fits (s .rows)) s own result rows i is
-      ∙ ap (λ (x : ℕ). resultFault (fits (s .rows)) result x is) (e .1) ∙ last-faultless rows a is c)
-      (subst (λ (x : ℕ). Faultless (codeFaults (typedInstr (fits (s .rows)) s own result) s own (rows ++ (x ∷ [])) is)) (sym (e .1)) (code-faultless c))
+      (ap (λ (x : Fault). firstOf x (resultFault (fitAnswer (s .rows)) result (lastRow (slotRows s own rows (i ∷ is))) is)) (e .0)
+      ∙ result-row (fitAnswer (s .rows)) s own result rows i is
+      ∙ ap (λ (x : ℕ). resultFault (fitAnswer (s .rows)) result x is) (e .1) ∙ last-faultless rows a is c)
+      (subst (λ (x : ℕ). Faultless (codeFaults (typedInstr (fitAnswer (s .rows)) s own result) s own (rows ++ (x ∷ [])) is)) (sym (e .1)) (code-faultless c))
 
   -- the value of a well-typed body, the last of all its slots, fits the declared result
   pub value-fits : {own : Own} {result : Option ℕ} {rows : List ℕ} {is : List Instr} → CodeTyped s own result rows is
@@ -112,7 +134,7 @@ module _ (s : Sheet) where
 
   part-faultless : (n : ℕ) {f : Form} {m : Member} {p : Part} → PartTyped s f m p → Faultless (partFaults ofTyping s n f m p)
   part-faultless n {f} (typed-init {r = r} {k = k} h) =
-      faultless-cons (passed (fits (s .rows) (getD (f .keeps) k 0) r) Misfit (h .fit)) (λ x i. absurd (in-nil i))
+      faultless-cons (fit-passes (getD (f .keeps) k 0) r (h .fit)) (λ x i. absurd (in-nil i))
   part-faultless n (typed-body c) = faultless-cons refl (code-faultless c)
 
   parts-faultless : (n : ℕ) {f : Form} {ms : List Member} {ps : List Part} → Pairwise (PartTyped s f) ms ps → Faultless (partsFaults ofTyping s n f ms ps)

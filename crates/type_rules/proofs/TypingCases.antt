@@ -8,14 +8,13 @@ use mathlib.Core.List.{List, [], _∷_, map}
 use mathlib.Core.Option.{none}
 use lib.Dec.{eqb}
 use Rattle.sheet_rules.specs.declared.FitAnswer.the-variants.{Yes, WrongKind, Unmet}
-use Rattle.sheet_rules.specs.declared.Reason.the-variants.{NotDefined, Misfit}
-use Rattle.sheet_rules.specs.Answers.{verdictNumber, verdictLine}
-use Rattle.sheet_rules.specs.Sheet.{Row}
-use Rattle.sheet_rules.specs.Reading.{Meaning, readable, unreadable, meaning}
+use Rattle.sheet_rules.specs.declared.Reason.the-variants.{NotDefined, ImpureForm, NoSuchMember}
+use Rattle.sheet_rules.specs.declared.Verdict.{Verdict}
+use Rattle.sheet_rules.specs.Answers.{verdictNumber, verdictLine, verdictLack, lackNumber, lackName}
+use Rattle.sheet_rules.specs.Reading.{meaning}
 use Rattle.sheet_rules.specs.Samples.{textOf, withLine, P}
 use Rattle.type_rules.specs.declared.FitReply.{FitReply}
-use Rattle.type_rules.specs.declared.FitReply.the-variants.{Fits, FitsNot, Refused}
-use Rattle.type_rules.specs.Fit.{fitAnswer}
+use Rattle.type_rules.specs.declared.FitReply.the-variants.{Answered, Refused}
 use Rattle.type_rules.specs.FitQuestion.{fitReply}
 use Rattle.type_rules.specs.Typing.{unless, LineJudge, lineFaults, firstFault, firstFormLine, verdictOn, verdict}
 use Rattle.type_rules.proofs.Opened.{judging}
@@ -50,41 +49,56 @@ record Pair : Type 0 where
 abbrev asked : ℕ → ℕ → FitReply → Pair
 asked a b r = record { a = a; b = b; wanted = r }
 
-abbrev pairs : List Pair
-pairs =
-    asked 2 3 Fits
-    ∷ asked 3 2 FitsNot
-    ∷ asked 0 1 Fits
-    ∷ asked 1 0 FitsNot
-    ∷ asked 4 5 FitsNot
-    ∷ asked 5 4 FitsNot
-    -- a row fits itself; extra members do no harm; a row number that is not there
-    ∷ asked 5 5 Fits
-    ∷ asked 3 1 Fits
-    ∷ asked 1 3 FitsNot
+-- what the question answers on a sheet's rows, beside what is wanted
+abbrev Answers : List String → List Pair → Type 0
+Answers ls ps = map (λ p. fitReply (textOf ls) (p .a) (p .b)) ps ≡ map (λ p. p .wanted) ps
+
+pub six-hold :
+    Answers six
+    (asked 2 3 (Answered Yes)
+    -- kind before names: 3 has no match for 2's method either
+    ∷ asked 3 2 (Answered WrongKind)
+    ∷ asked 0 1 (Answered Yes)
+    ∷ asked 1 0 (Answered WrongKind)
+    ∷ asked 4 5 (Answered (Unmet 1))
+    ∷ asked 5 4 (Answered (Unmet 1))
+    -- a row fits itself; extra members do no harm; a field is no match of a method; a row number that is not there
+    ∷ asked 5 5 (Answered Yes)
+    ∷ asked 3 1 (Answered Yes)
+    ∷ asked 1 3 (Answered (Unmet 1))
+    ∷ asked 4 3 (Answered (Unmet 1))
     ∷ asked 0 6 (Refused NotDefined 0)
     ∷ asked 6 0 (Refused NotDefined 0)
-    ∷ []
-
-pub pairs-hold : map (λ p. fitReply (textOf six) (p .a) (p .b)) pairs ≡ map (λ p. p .wanted) pairs
+    ∷ [])
 unfolding judging
-pairs-hold = refl
+six-hold = refl
+
+-- rows 0 pure empty; 1 resource, method 1; 2 resource, methods 1, 2 and 3; 3 resource, method 2: the lowest name without a match
+pub lowest-hold :
+    Answers
+    ("types=4"
+    ∷ "type=0,0"
+    ∷ "type=1,1"
+    ∷ "def=1,0,0"
+    ∷ "type=1,3"
+    ∷ "def=1,0,0"
+    ∷ "def=2,0,0"
+    ∷ "def=3,0,0"
+    ∷ "type=1,1"
+    ∷ "def=2,0,0"
+    ∷ "forms=1"
+    ∷ "form=0,0"
+    ∷ "main=1"
+    ∷ "new=0"
+    ∷ [])
+    (asked 0 2 (Answered (Unmet 1)) ∷ asked 1 2 (Answered (Unmet 2)) ∷ asked 3 2 (Answered (Unmet 1)) ∷ asked 2 3 (Answered Yes) ∷ asked 2 0 (Answered WrongKind) ∷ [])
+unfolding judging
+lowest-hold = refl
 
 -- the fit question stops after reading: a sheet that is not well typed still answers, and one that is not read is refused
-pub fit-ill-typed : fitReply (textOf (withLine 19 "new=2,0" P)) 0 1 ≡ FitsNot
+pub fit-ill-typed : fitReply (textOf (withLine 19 "new=2,0" P)) 0 1 ≡ Answered (Unmet 1)
 unfolding judging
 fit-ill-typed = refl
-
-abbrev rowsOf : Meaning → List Row
-rowsOf (readable s) = s .rows
-rowsOf (unreadable r n) = []
-
--- the answers behind no: kind before names, and the lowest name without a match
-pub answers-hold :
-    map (λ b. fitAnswer (rowsOf (meaning (textOf six))) 3 b) (0 ∷ 1 ∷ 2 ∷ 3 ∷ 4 ∷ [])
-    ≡ WrongKind ∷ Yes ∷ WrongKind ∷ Yes ∷ Unmet 1 ∷ []
-unfolding judging
-answers-hold = refl
 
 -- TYPING
 
@@ -128,16 +142,49 @@ kitchen =
     ∷ "call=2,1,1"
     ∷ []
 
+-- rows 0 pure empty; 1 resource empty; 2 resource, method 7 from row 0 to row 1; 3 resource, method 4 from row 1 to row 2; the body of
+-- method 4 and main end with a line that misfits in two places, each for a lack of its own
+abbrev pantry : List String
+pantry =
+    "types=4"
+    ∷ "type=0,0"
+    ∷ "type=1,0"
+    ∷ "type=1,1"
+    ∷ "def=7,0,1"
+    ∷ "type=1,1"
+    ∷ "def=4,1,2"
+    ∷ "forms=3"
+    ∷ "form=1,0"
+    ∷ "form=3,2"
+    ∷ "keep=2"
+    ∷ "keep=0"
+    ∷ "body=1"
+    ∷ "call=2,7,1"
+    ∷ "form=2,0"
+    ∷ "body=1"
+    ∷ "new=0"
+    ∷ "main=2"
+    ∷ "new=0"
+    ∷ "new=1,0,0"
+    ∷ []
+
 record Case : Type 0 where
   sheet : List String
   wanted : List ℕ
 
 abbrev gives : List String → ℕ → ℕ → Case
-gives ls number line = record { sheet = ls; wanted = number ∷ line ∷ [] }
+gives ls number line = record { sheet = ls; wanted = number ∷ line ∷ 0 ∷ 0 ∷ [] }
 
--- the kitchen with one line replaced
+-- a misfit, with what is lacking and the member's name
+abbrev misfits : List String → (line lack name : ℕ) → Case
+misfits ls line lack name = record { sheet = ls; wanted = 10 ∷ line ∷ lack ∷ name ∷ [] }
+
+-- the kitchen with one line replaced, and the pantry
 abbrev with : ℕ → String → List String
 with n l = withLine n l kitchen
+
+abbrev stored : ℕ → String → List String
+stored n l = withLine n l pantry
 
 abbrev cases : List Case
 cases =
@@ -156,15 +203,23 @@ cases =
     ∷ gives (with 34 "get=1") 9 34
     ∷ gives (with 34 "put=1,0") 9 34
     -- a misfit at `init`, in `put`, of an argument, of a kept value, and too few or too many slots
-    ∷ gives (with 13 "keep=1") 10 14
-    ∷ gives (with 16 "put=1,0") 10 16
-    ∷ gives (with 22 "call=1,2,0") 10 22
-    ∷ gives (with 32 "new=2,0") 10 32
-    ∷ gives (with 32 "new=2") 10 32
-    ∷ gives (with 32 "new=2,1,1") 10 32
+    ∷ misfits (with 13 "keep=1") 14 2 0
+    ∷ misfits (with 16 "put=1,0") 16 2 0
+    ∷ misfits (with 22 "call=1,2,0") 22 2 0
+    ∷ misfits (with 32 "new=2,0") 32 3 1
+    ∷ misfits (with 32 "new=2") 32 1 0
+    ∷ misfits (with 32 "new=2,1,1") 32 1 0
     -- a body's result, on its last instruction's line
-    ∷ gives (with 28 "copy=3") 10 28
-    ∷ gives (with 17 "copy=0") 10 17
+    ∷ misfits (with 28 "copy=3") 28 2 0
+    ∷ misfits (with 17 "copy=0") 17 2 0
+    -- count before any slot is judged
+    ∷ misfits (with 32 "new=2,0,0") 32 1 0
+    -- the argument before the body's result; the result where the argument fits
+    ∷ misfits pantry 14 2 0
+    ∷ misfits (stored 14 "call=2,7,3") 14 3 7
+    -- the first slot before the second; the second where the first fits
+    ∷ misfits (stored 14 "copy=2") 20 3 7
+    ∷ misfits (withLine 19 "new=2" (stored 14 "copy=2")) 20 2 0
     -- no such part comes before a misfit of the body's result on the same line
     ∷ gives ("types=3" ∷ "type=0,0" ∷ "type=1,1" ∷ "var=1,0" ∷ "type=1,1" ∷ "def=1,0,1" ∷ "forms=1" ∷ "form=2,0" ∷ "body=1" ∷ "get=9" ∷ "main=1" ∷ "new=0" ∷ []) 9 10
     -- the first line at fault; and the whole sheet is read before any line is typed
@@ -172,9 +227,11 @@ cases =
     ∷ gives (withLine 34 "call=9,1,1" (with 24 "keep=1")) 7 34
     ∷ []
 
-pub all :
-    map (λ c. verdictNumber (verdict (textOf (c .sheet))) ∷ verdictLine (verdict (textOf (c .sheet))) ∷ []) cases
-    ≡ map (λ c. c .wanted) cases
+-- number, line, what is lacking and the member's name
+abbrev numbers : Verdict → List ℕ
+numbers v = verdictNumber v ∷ verdictLine v ∷ lackNumber (verdictLack v) ∷ lackName (verdictLack v) ∷ []
+
+pub all : map (λ c. numbers (verdict (textOf (c .sheet)))) cases ≡ map (λ c. c .wanted) cases
 unfolding judging
 all = refl
 
@@ -184,10 +241,10 @@ all = refl
 abbrev asking : (ℕ → Bool) → (ℕ → Bool) → LineJudge
 asking form method =
     record {
-      ofForm = λ n f. unless (form n) Misfit;
+      ofForm = λ n f. unless (form n) ImpureForm;
       ofKeep = λ n f k. none;
       ofInit = λ n f m r k. none;
-      ofBody = λ n f m r rows i is. unless (method m) Misfit;
+      ofBody = λ n f m r rows i is. unless (method m) NoSuchMember;
       ofMain = λ rows i is. none;
     }
 

@@ -5,26 +5,30 @@ use mathlib.Core.Path.{_≡_, refl, sym, ap, _∙_, subst}
 use mathlib.Core.Bool.{Bool, true, false, not, _&&_}
 use mathlib.Core.List.{List, [], _∷_, _++_, map}
 use mathlib.Core.Option.{Option, none, some}
-use lib.Dec.{T, T-not, ltb, ltb→lt}
+use lib.Dec.{T, T-not, eqb, eqb→eq, ltb, ltb→lt}
 use lib.ListN.{length, getD, length-append}
 use lib.Seq.{getD-at}
 use Rattle.lists.specs.In.{In, here, there}
 use Rattle.lists.specs.Pairwise.{Pairwise, pair}
 use Rattle.lists.proofs.InLaws.{in-left, in-right}
 use Rattle.lists.proofs.Tests.{and-left, and-right, and-intro, clash}
+use Rattle.sheet_rules.specs.declared.FitAnswer.{FitAnswer}
+use Rattle.sheet_rules.specs.declared.FitAnswer.the-variants.{Yes, WrongKind, Unmet}
+use Rattle.sheet_rules.specs.declared.Lack.{Lack}
 use Rattle.sheet_rules.specs.declared.Member.{Member}
 use Rattle.sheet_rules.specs.declared.Member.the-variants.{Method, Field}
 use Rattle.sheet_rules.specs.declared.Reason.{Reason}
 use Rattle.sheet_rules.specs.declared.Reason.the-variants.{ImpureForm, Misfit}
 use Rattle.sheet_rules.specs.declared.Verdict.{Verdict}
 use Rattle.sheet_rules.specs.declared.Verdict.the-variants.{Accepted, Refused}
+use Rattle.sheet_rules.specs.Answers.{isYes}
 use Rattle.sheet_rules.specs.Sheet.{Row, Instr, new, call, get, put, copy, Part, init, body, Form, Sheet, rowAt, formAt}
 use Rattle.sheet_rules.specs.FormLines.{allBelow, namesExist}
 use Rattle.sheet_rules.specs.Reading.{Meaning, readable, unreadable}
 use Rattle.sheet_rules.specs.WellFormed.{Scoped, WellFormedBody, PartOf, WellFormedForm, WellFormed}
 use Rattle.sheet_rules.proofs.FormLinesLaws.{first-below, others-below}
-use Rattle.type_rules.specs.Fit.{fits}
-use Rattle.type_rules.specs.Typing.{Signature, methodIn, membersAt, Own, ownField, resultOf, rowOr0, slotRow, slotRows, lastRow, bodyRows, mainRows, Fault, unless, firstOf, allFit, callFault, getFault, putFault, instrFault, resultFault, isPure, hasField, keepFault, LineJudge, codeFaults, partFaults, partsFaults, keepFaults, formFaults, formsFaults, lineFaults, typedInstr, typedLines, firstFault, firstFormLine, typing, verdictOn, ifAccepted, acceptedOn}
+use Rattle.type_rules.specs.Fit.{fitAnswer, fits}
+use Rattle.type_rules.specs.Typing.{Signature, methodIn, membersAt, Own, ownField, resultOf, rowOr0, slotRow, slotRows, lastRow, bodyRows, mainRows, Fault, unless, firstOf, fitFault, slotsFault, callFault, getFault, putFault, instrFault, resultFault, isPure, hasField, keepFault, LineJudge, codeFaults, partFaults, partsFaults, keepFaults, formFaults, formsFaults, lineFaults, typedInstr, typedLines, firstFault, firstFormLine, typing, verdictOn, ifAccepted, acceptedOn}
 use Rattle.type_rules.specs.Typed.{SlotFits, InstrTyped, typed-new, typed-call, typed-get, typed-put, typed-copy, ResultFits, undeclared, declared, CodeTyped, end, next, PartTyped, typed-init, typed-body, FormTyped, Typed}
 
 -- lines without a fault
@@ -49,47 +53,56 @@ firstOf-none (some r) g e = clash (cc)
 pub lastRow-snoc : (rows : List ℕ) (a : ℕ) → lastRow (rows ++ (a ∷ [])) ≡ a
 lastRow-snoc rows a = getD-at rows a [] 0 (pred (length (rows ++ (a ∷ [])))) (rw length-append (omega arith))
 
+answer-passed : (x : FitAnswer) → fitFault x ≡ none → T (isYes x)
+answer-passed Yes e = tt
+answer-passed WrongKind e = clash (cc)
+answer-passed (Unmet n) e = clash (cc)
+
 -- on the last line the last of all slots is the one that its instruction fills
-pub result-row : (fit : ℕ → ℕ → Bool) (s : Sheet) (own : Own) (result : Option ℕ) (rows : List ℕ) (i : Instr) (is : List Instr)
+pub result-row : (fit : ℕ → ℕ → FitAnswer) (s : Sheet) (own : Own) (result : Option ℕ) (rows : List ℕ) (i : Instr) (is : List Instr)
     → resultFault fit result (lastRow (slotRows s own rows (i ∷ is))) is ≡ resultFault fit result (slotRow s own rows i) is
 unfolding slotRows
 result-row fit s own none rows i is = refl
-result-row fit s own (some r) rows i [] = ap (λ (a : ℕ). unless (fit a r) Misfit) (lastRow-snoc rows (slotRow s own rows i))
+result-row fit s own (some r) rows i [] = ap (λ (a : ℕ). fitFault (fit a r)) (lastRow-snoc rows (slotRow s own rows i))
 result-row fit s own (some r) rows i (j ∷ is) = refl
 
 module _ (s : Sheet) where
   -- typing's judge of the sheet's lines
   abbrev ofTyping : LineJudge
-  ofTyping = typedLines (fits (s .rows)) s
+  ofTyping = typedLines (fitAnswer (s .rows)) s
 
   -- INSTRUCTIONS
 
-  fit-passed : (a b : ℕ) → unless (fits (s .rows) a b) Misfit ≡ none → T (fits (s .rows) a b)
-  fit-passed a b e = unless-passed (fits (s .rows) a b) Misfit e
+  fit-passed : (a b : ℕ) → fitFault (fitAnswer (s .rows) a b) ≡ none → T (fits (s .rows) a b)
+  unfolding fits
+  fit-passed a b e = answer-passed (fitAnswer (s .rows) a b) e
 
-  slots-fit : (rows ss bs : List ℕ) → T (allBelow (length rows) ss) → T (allFit (fits (s .rows)) rows ss bs) → Pairwise (SlotFits s rows) ss bs
-  unfolding allBelow allFit
-  slots-fit rows [] [] t u = Pairwise.none
-  slots-fit rows [] (b ∷ bs) t u = absurd u
-  slots-fit rows (v ∷ ss) [] t u = absurd u
-  slots-fit rows (v ∷ ss) (b ∷ bs) t u =
-      pair
-      (record {
-        filled = first-below ss t;
-        fit = and-left (fits (s .rows) (getD rows v 0) b) (allFit (fits (s .rows)) rows ss bs) u;
-      })
-      (slots-fit rows ss bs (others-below (length rows) v ss t)
-      (and-right (fits (s .rows) (getD rows v 0) b) (allFit (fits (s .rows)) rows ss bs) u))
+  slots-fit : (rows ss bs : List ℕ) → T (allBelow (length rows) ss) → length ss ≡ length bs → slotsFault (fitAnswer (s .rows)) rows ss bs ≡ none
+      → Pairwise (SlotFits s rows) ss bs
+  unfolding allBelow slotsFault
+  slots-fit rows [] [] t n e = Pairwise.none
+  slots-fit rows [] (b ∷ bs) t n e = absurd (omega arith)
+  slots-fit rows (v ∷ ss) [] t n e = absurd (omega arith)
+  slots-fit rows (v ∷ ss) (b ∷ bs) t n e =
+      let p = firstOf-none (fitFault (fitAnswer (s .rows) (getD rows v 0) b)) (slotsFault (fitAnswer (s .rows)) rows ss bs) e in
+      pair (record { filled = first-below ss t; fit = fit-passed (getD rows v 0) b (p .0) })
+      (slots-fit rows ss bs (others-below (length rows) v ss t) (omega arith) (p .1))
 
   instr-typed : (own : Own) (rows : List ℕ) (i : Instr) → T (namesExist (length (s .forms)) (length rows) i)
-      → instrFault (fits (s .rows)) s own rows i ≡ none → InstrTyped s own rows i (slotRow s own rows i)
+      → instrFault (fitAnswer (s .rows)) s own rows i ≡ none → InstrTyped s own rows i (slotRow s own rows i)
   instr-typed own rows (new f ss) t e =
       typed-new (ltb→lt f (length (s .forms)) (and-left (ltb f (length (s .forms))) (allBelow (length rows) ss) t))
-      (slots-fit rows ss ((formAt s f) .keeps) (and-right (ltb f (length (s .forms))) (allBelow (length rows) ss) t)
-      (unless-passed (allFit (fits (s .rows)) rows ss ((formAt s f) .keeps)) Misfit e))
+      (slots-fit rows ss keeps (and-right (ltb f (length (s .forms))) (allBelow (length rows) ss) t)
+      (eqb→eq (length ss) (length keeps) (unless-passed (eqb (length ss) (length keeps)) (Misfit Lack.Count) (p .0))) (p .1))
+    where
+      keeps : List ℕ
+      keeps = (formAt s f) .keeps
+
+      p : (unless (eqb (length ss) (length keeps)) (Misfit Lack.Count) ≡ none) × (slotsFault (fitAnswer (s .rows)) rows ss keeps ≡ none)
+      p = firstOf-none (unless (eqb (length ss) (length keeps)) (Misfit Lack.Count)) (slotsFault (fitAnswer (s .rows)) rows ss keeps) e
   instr-typed own rows (call o n a) t e = go (methodIn (membersAt s (getD rows o 0)) n) refl e
     where
-      go : (m : Option Signature) → methodIn (membersAt s (getD rows o 0)) n ≡ m → callFault (fits (s .rows)) m (getD rows a 0) ≡ none
+      go : (m : Option Signature) → methodIn (membersAt s (getD rows o 0)) n ≡ m → callFault (fitAnswer (s .rows)) m (getD rows a 0) ≡ none
           → InstrTyped s own rows (call o n a) (resultOf m)
       go none p e = clash (cc)
       go (some m) p e =
@@ -101,27 +114,27 @@ module _ (s : Sheet) where
       go (some r) p e = typed-get p
   instr-typed own rows (put n v) t e = go (ownField s own n) refl e
     where
-      go : (r : Option ℕ) → ownField s own n ≡ r → putFault (fits (s .rows)) r (getD rows v 0) ≡ none → InstrTyped s own rows (put n v) (rowOr0 r)
+      go : (r : Option ℕ) → ownField s own n ≡ r → putFault (fitAnswer (s .rows)) r (getD rows v 0) ≡ none → InstrTyped s own rows (put n v) (rowOr0 r)
       go none p e = clash (cc)
       go (some r) p e = typed-put p (record { filled = first-below [] t; fit = fit-passed (getD rows v 0) r e })
   instr-typed own rows (copy v) t e = typed-copy (first-below [] t)
 
   -- BODIES
 
-  result-fits : (result : Option ℕ) (a : ℕ) → resultFault (fits (s .rows)) result a [] ≡ none → ResultFits s a result
+  result-fits : (result : Option ℕ) (a : ℕ) → resultFault (fitAnswer (s .rows)) result a [] ≡ none → ResultFits s a result
   result-fits none a e = undeclared
   result-fits (some r) a e = declared (fit-passed a r e)
 
   -- the first line of some instructions passed, with its result if it is the last
   first-typed : (own : Own) (result : Option ℕ) (rows : List ℕ) (i : Instr) (is : List Instr) → T (namesExist (length (s .forms)) (length rows) i)
-      → typedInstr (fits (s .rows)) s own result rows i is ≡ none
-      → InstrTyped s own rows i (slotRow s own rows i) × (resultFault (fits (s .rows)) result (slotRow s own rows i) is ≡ none)
+      → typedInstr (fitAnswer (s .rows)) s own result rows i is ≡ none
+      → InstrTyped s own rows i (slotRow s own rows i) × (resultFault (fitAnswer (s .rows)) result (slotRow s own rows i) is ≡ none)
   first-typed own result rows i is t e =
-      let p = firstOf-none (instrFault (fits (s .rows)) s own rows i) (resultFault (fits (s .rows)) result (lastRow (slotRows s own rows (i ∷ is))) is) e in
-      (instr-typed own rows i t (p .0), sym (result-row (fits (s .rows)) s own result rows i is) ∙ p .1)
+      let p = firstOf-none (instrFault (fitAnswer (s .rows)) s own rows i) (resultFault (fitAnswer (s .rows)) result (lastRow (slotRows s own rows (i ∷ is))) is) e in
+      (instr-typed own rows i t (p .0), sym (result-row (fitAnswer (s .rows)) s own result rows i is) ∙ p .1)
 
   code-typed : (own : Own) (result : Option ℕ) (rows : List ℕ) (i : Instr) (is : List Instr) → Scoped (length (s .forms)) (length rows) (i ∷ is)
-      → Faultless (codeFaults (typedInstr (fits (s .rows)) s own result) s own rows (i ∷ is)) → CodeTyped s own result rows (i ∷ is)
+      → Faultless (codeFaults (typedInstr (fitAnswer (s .rows)) s own result) s own rows (i ∷ is)) → CodeTyped s own result rows (i ∷ is)
   unfolding codeFaults
   code-typed own result rows i [] (Scoped.next t r) h =
       let p = first-typed own result rows i [] (t .exist) (h _ (here refl)) in
@@ -137,7 +150,7 @@ module _ (s : Sheet) where
       (code-typed own result (rows ++ (a ∷ [])) j is (subst (λ (k : ℕ). Scoped (length (s .forms)) k (j ∷ is)) e r) (λ g k. h g (there k)))
 
   body-typed : (own : Own) (result : Option ℕ) (rows : List ℕ) (is : List Instr) → WellFormedBody (length (s .forms)) (length rows) is
-      → Faultless (codeFaults (typedInstr (fits (s .rows)) s own result) s own rows is) → CodeTyped s own result rows is
+      → Faultless (codeFaults (typedInstr (fitAnswer (s .rows)) s own result) s own rows is) → CodeTyped s own result rows is
   body-typed own result rows [] w h = absurd (omega (arith, w .some))
   body-typed own result rows (i ∷ is) w h = code-typed own result rows i is (w .scoped) h
 

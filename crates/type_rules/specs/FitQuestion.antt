@@ -1,4 +1,5 @@
--- What the fit question answers for a text and two row numbers, its buffers left aside (document 01, Turned away).
+-- What the fit question answers for a text and two row numbers, its buffers left aside (document 01, Turned away; document 02,
+-- order 3).
 -- Stands on Fit and on reading.
 use Prim.Native.Nat.{ℕ}
 use mathlib.Core.Bool.{cond, _&&_}
@@ -9,14 +10,15 @@ use Rattle.sheet_rules.specs.declared.Reason.the-variants.{NotDefined}
 use Rattle.sheet_rules.specs.Sheet.{Sheet}
 use Rattle.sheet_rules.specs.Reading.{Meaning, readable, unreadable, meaning}
 use Rattle.type_rules.specs.declared.FitReply.{FitReply}
-use Rattle.type_rules.specs.declared.FitReply.the-variants.{Fits, FitsNot, Refused}
-use Rattle.type_rules.specs.Fit.{fits}
+use Rattle.type_rules.specs.declared.FitReply.the-variants.{Answered, Refused}
+use Rattle.type_rules.specs.Fit.{fitAnswer}
 
--- both rows are there: yes or no; a row number that is not there is refused at line 0 (Turned away)
+-- both rows are there: fit's answer, yes or what is lacking; a row number that is not there is refused at line 0 (Turned away;
+-- document 02, order 3)
 abbrev pub fitIn : Sheet → ℕ → ℕ → FitReply
 fitIn s a b =
     cond (ltb a (length (s .rows)) && ltb b (length (s .rows)))
-    (cond (fits (s .rows) a b) Fits FitsNot)
+    (Answered (fitAnswer (s .rows) a b))
     (Refused NotDefined 0)
 
 -- the fit question stops after reading (Turned away)

@@ -1,4 +1,5 @@
 pub mod Fit
+pub mod Says
 pub mod FitQuestion
 pub mod Typing
 pub mod Typed

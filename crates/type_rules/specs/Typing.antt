@@ -1,23 +1,26 @@
 -- The typing verdict: a list with the fault, if any, of each line from the first `form` line on, and the first of these
--- (document 01, Fit and typing; Turned away, 8 to 10). The list is made by any judge of lines; typing's is one. Stands on Fit and
--- on the sheet; no rule looks at bytes.
+-- (document 01, Fit and typing; Turned away, 8 to 10; document 02, order 3). The list is made by any judge of lines; typing's is one.
+-- Stands on Fit and on the sheet; no rule looks at bytes.
 use Prim.Native.Nat.{ℕ, suc, pred, _+_}
 use mathlib.Core.Bool.{Bool, true, false, not, cond, _&&_}
 use mathlib.Core.List.{List, [], _∷_, _++_, map}
 use mathlib.Core.Option.{Option, none, some}
 use lib.Dec.{eqb}
 use lib.ListN.{length, getD}
+use Rattle.sheet_rules.specs.declared.FitAnswer.{FitAnswer}
 use Rattle.sheet_rules.specs.declared.Kind.{Kind}
 use Rattle.sheet_rules.specs.declared.Kind.the-variants.{Pure, Resource}
+use Rattle.sheet_rules.specs.declared.Lack.{Lack}
 use Rattle.sheet_rules.specs.declared.Member.{Member}
 use Rattle.sheet_rules.specs.declared.Member.the-variants.{Method, Field}
 use Rattle.sheet_rules.specs.declared.Reason.{Reason}
 use Rattle.sheet_rules.specs.declared.Reason.the-variants.{ImpureForm, NoSuchMember, Misfit}
 use Rattle.sheet_rules.specs.declared.Verdict.{Verdict}
 use Rattle.sheet_rules.specs.declared.Verdict.the-variants.{Accepted, Refused}
+use Rattle.sheet_rules.specs.Answers.{answerLack}
 use Rattle.sheet_rules.specs.Sheet.{Row, Instr, new, call, get, put, copy, Part, init, body, Form, Sheet, atStart, rowAt, formAt}
 use Rattle.sheet_rules.specs.Reading.{Meaning, readable, unreadable, meaning}
-use Rattle.type_rules.specs.Fit.{fits}
+use Rattle.type_rules.specs.Fit.{fitAnswer}
 
 -- LOOKING UP
 
@@ -111,17 +114,29 @@ abbrev pub firstOf : Fault → Fault → Fault
 firstOf none g = g
 firstOf (some r) g = some r
 
--- values of the given rows, slot by slot, fit the declared rows, and there are as many (Fit and typing)
-unfoldable pub allFit : (ℕ → ℕ → Bool) → List ℕ → List ℕ → List ℕ → Bool
-allFit fit rows [] [] = true
-allFit fit rows [] (b ∷ bs) = false
-allFit fit rows (v ∷ vs) [] = false
-allFit fit rows (v ∷ vs) (b ∷ bs) = fit (getD rows v 0) b && allFit fit rows vs bs
+-- a misfit, where something is lacking (document 02, order 3)
+abbrev pub misfit : Option Lack → Fault
+misfit none = none
+misfit (some l) = some (Misfit l)
+
+-- a value must fit where it goes; the misfit carries fit's answer (document 02, order 3)
+abbrev pub fitFault : FitAnswer → Fault
+fitFault x = misfit (answerLack x)
+
+-- values of the given rows must fit the declared rows, slot by slot; the first that does not is the fault (document 02, order 3)
+unfoldable pub slotsFault : (ℕ → ℕ → FitAnswer) → List ℕ → List ℕ → List ℕ → Fault
+slotsFault fit rows [] bs = none
+slotsFault fit rows (v ∷ vs) [] = none
+slotsFault fit rows (v ∷ vs) (b ∷ bs) = firstOf (fitFault (fit (getD rows v 0) b)) (slotsFault fit rows vs bs)
+
+-- there must be one slot for each kept value, before any slot is judged (Turned away, 10; document 02, order 3)
+abbrev pub newFault : (ℕ → ℕ → FitAnswer) → List ℕ → List ℕ → List ℕ → Fault
+newFault fit rows vs bs = firstOf (unless (eqb (length vs) (length bs)) (Misfit Lack.Count)) (slotsFault fit rows vs bs)
 
 -- method n must be there, and a value of row a must fit its argument (Fit and typing)
-abbrev pub callFault : (ℕ → ℕ → Bool) → Option Signature → ℕ → Fault
+abbrev pub callFault : (ℕ → ℕ → FitAnswer) → Option Signature → ℕ → Fault
 callFault fit none a = some NoSuchMember
-callFault fit (some m) a = unless (fit a (m .argument)) Misfit
+callFault fit (some m) a = fitFault (fit a (m .argument))
 
 -- the field must be there (Fit and typing)
 abbrev pub getFault : Option ℕ → Fault
@@ -129,13 +144,13 @@ getFault none = some NoSuchMember
 getFault (some r) = none
 
 -- the field must be there, and a value of row a must fit it (Fit and typing)
-abbrev pub putFault : (ℕ → ℕ → Bool) → Option ℕ → ℕ → Fault
+abbrev pub putFault : (ℕ → ℕ → FitAnswer) → Option ℕ → ℕ → Fault
 putFault fit none a = some NoSuchMember
-putFault fit (some r) a = unless (fit a r) Misfit
+putFault fit (some r) a = fitFault (fit a r)
 
 -- the fault of an instruction, after slots of the given rows (Fit and typing)
-abbrev pub instrFault : (ℕ → ℕ → Bool) → Sheet → Own → List ℕ → Instr → Fault
-instrFault fit s own rows (new f ss) = unless (allFit fit rows ss ((formAt s f) .keeps)) Misfit
+abbrev pub instrFault : (ℕ → ℕ → FitAnswer) → Sheet → Own → List ℕ → Instr → Fault
+instrFault fit s own rows (new f ss) = newFault fit rows ss ((formAt s f) .keeps)
 instrFault fit s own rows (call o n a) = callFault fit (methodIn (membersAt s (getD rows o 0)) n) (getD rows a 0)
 instrFault fit s own rows (get n) = getFault (ownField s own n)
 instrFault fit s own rows (put n v) = putFault fit (ownField s own n) (getD rows v 0)
@@ -143,14 +158,14 @@ instrFault fit s own rows (copy v) = none
 
 -- a body's value, of row a, must fit the declared result, which is judged on its last instruction's line; main declares none
 -- (Fit and typing)
-abbrev pub resultFault : (ℕ → ℕ → Bool) → Option ℕ → ℕ → List Instr → Fault
+abbrev pub resultFault : (ℕ → ℕ → FitAnswer) → Option ℕ → ℕ → List Instr → Fault
 resultFault fit none a is = none
-resultFault fit (some r) a [] = unless (fit a r) Misfit
+resultFault fit (some r) a [] = fitFault (fit a r)
 resultFault fit (some r) a (i ∷ is) = none
 
 -- a field starts as a kept value, of number k, which must fit its row (Fit and typing)
-abbrev pub initFault : (ℕ → ℕ → Bool) → Form → (row k : ℕ) → Fault
-initFault fit f row k = unless (fit (getD (f .keeps) k 0) row) Misfit
+abbrev pub initFault : (ℕ → ℕ → FitAnswer) → Form → (row k : ℕ) → Fault
+initFault fit f row k = fitFault (fit (getD (f .keeps) k 0) row)
 
 -- a kind is pure (Fit and typing)
 abbrev pub isPure : Kind → Bool
@@ -226,12 +241,12 @@ lineFaults judge s = formsFaults judge s 0 (s .forms) ++ (none ∷ codeFaults (j
 -- TYPING'S OWN JUDGE
 
 -- an instruction by its own rule, then the body's value, the last of all slots, by the declared result (Fit and typing)
-abbrev pub typedInstr : (ℕ → ℕ → Bool) → Sheet → Own → Option ℕ → InstrJudge
+abbrev pub typedInstr : (ℕ → ℕ → FitAnswer) → Sheet → Own → Option ℕ → InstrJudge
 typedInstr fit s own result rows i is =
     firstOf (instrFault fit s own rows i) (resultFault fit result (lastRow (slotRows s own rows (i ∷ is))) is)
 
 -- each line by its rule; typing asks for no form's number and no member's name (Fit and typing)
-abbrev pub typedLines : (ℕ → ℕ → Bool) → Sheet → LineJudge
+abbrev pub typedLines : (ℕ → ℕ → FitAnswer) → Sheet → LineJudge
 typedLines fit s =
     record {
       ofForm = λ n f. formFault (rowAt (s .rows) (f .row));
@@ -260,7 +275,7 @@ firstFormLine s = rowLines (s .rows) + 3
 
 -- the typing verdict on a sheet that was read (Fit and typing)
 unfoldable pub typing : Sheet → Verdict
-typing s = firstFault (firstFormLine s) (lineFaults (typedLines (fits (s .rows)) s) s)
+typing s = firstFault (firstFormLine s) (lineFaults (typedLines (fitAnswer (s .rows)) s) s)
 
 -- the verdict on what reading gave, by a judge of sheets: only a sheet that was read whole is judged (Turned away)
 abbrev pub verdictOn : (Sheet → Verdict) → Meaning → Verdict

@@ -3,11 +3,11 @@ use Prim.Native.Nat.{ℕ, suc, _+_, _*_, _≤_, _<_}
 use native.Mathlib.Omega.{arith}
 use native.Mathlib.Numerals.{add-one}
 use mathlib.Core.Path.{_≡_, refl, sym, ap, _∙_}
-use mathlib.Core.Bool.{Bool}
 use mathlib.Core.List.{List, _++_}
 use lib.ListN.{length, drop, drop-of-length-le, length-append, length-map}
 use lib.Seq.{drop-cons}
 use Rattle.lists.proofs.Tests.{clash}
+use Rattle.sheet_rules.specs.declared.FitAnswer.{FitAnswer}
 use Rattle.sheet_rules.specs.declared.Reason.{Reason}
 use Rattle.sheet_rules.specs.Sheet.{Form, Sheet, noForm, formAt}
 use Rattle.type_rules.specs.Typing.{Fault, formFaults, formsFaults, typedLines}
@@ -20,7 +20,7 @@ use Rattle.code_typing.specs.declared.Walked.{Walked}
 use Rattle.code_typing.specs.Walk.{walk, walkOn}
 use Rattle.code_typing.specs.Told.{judgeIn, OnlySlots, LinesJudged}
 use Rattle.code_typing.proofs.WalkLaws.{walk-none, walk-append, walk-length}
-use Rattle.code_typing.proofs.CodeLaws.{slots-sheet, slots-tells, slots-whole}
+use Rattle.code_typing.proofs.CodeLaws.{slots-sheet, slots-answers, slots-whole}
 use Rattle.form_typing.specs.Told.{keepFaultsIn, partsFaultsIn, formFaultsIn}
 use Rattle.form_typing.proofs.PartsLaws.{parts-lines}
 use Rattle.typing.specs.Told.{formsFaultsIn, FormsJudged}
@@ -78,12 +78,12 @@ module _ {first : ℕ} {w₀ w : List ℕ} {f line : ℕ} (g : FormsGoing first 
         on-is n e = cc
 
     module _ (l : f < count) {w′ : List ℕ} {r : Walked} (t : LinesJudged (formFaultsIn w f) line w w′ r) where
-      faultsOf : (ℕ → ℕ → Bool) → Sheet → List Fault
+      faultsOf : (ℕ → ℕ → FitAnswer) → Sheet → List Fault
       faultsOf fit s = formFaults (typedLines fit s) s f (formAt s f)
 
       here : formFaultsIn w f ≡ formFaults (judgeIn w₀) (sheetIn w₀) f (formAt (sheetIn w₀) f)
       unfolding faultsOf
-      here = λ x. faultsOf (slots-tells (g .only) x) (slots-sheet (g .only) x)
+      here = λ x. faultsOf (slots-answers (g .only) x) (slots-sheet (g .only) x)
 
       abbrev rest : List Fault
       rest = faultsFrom w₀ (suc f)

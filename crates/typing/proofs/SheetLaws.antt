@@ -3,12 +3,12 @@ use Prim.Native.Nat.{ℕ, suc, _+_, _*_, _≤_, _<_}
 use native.Mathlib.Omega.{arith}
 use native.Mathlib.Numerals.{add-one}
 use mathlib.Core.Path.{_≡_, sym, ap, _∙_, subst}
-use mathlib.Core.Bool.{Bool}
 use mathlib.Core.List.{List, [], _∷_, _++_}
 use mathlib.Core.Option.{none}
 use lib.ListN.{length, drop, drop-of-length-le}
 use lib.Seq.{drop-cons}
 use Rattle.lists.specs.Tab.{tab}
+use Rattle.sheet_rules.specs.declared.FitAnswer.{FitAnswer}
 use Rattle.sheet_rules.specs.declared.Reason.{Reason}
 use Rattle.sheet_rules.specs.declared.Verdict.{Verdict}
 use Rattle.sheet_rules.specs.Sheet.{Row, Instr, Sheet, noRow, rowAt}
@@ -20,7 +20,7 @@ use Rattle.code_typing.specs.declared.Walked.{Walked}
 use Rattle.code_typing.specs.Walk.{walk, walkOn, walkVerdict}
 use Rattle.code_typing.specs.Told.{judgeIn, LinesJudged, CodeJudged}
 use Rattle.code_typing.proofs.WalkLaws.{walk-good, walk-append, walk-verdict}
-use Rattle.code_typing.proofs.CodeLaws.{slots-sheet, slots-tells}
+use Rattle.code_typing.proofs.CodeLaws.{slots-sheet, slots-answers}
 use Rattle.typing.specs.Told.{formsFaultsIn, mainFaultsIn, mainSlotRows, FormsJudged, SheetJudged}
 
 -- the line of the first form
@@ -92,8 +92,8 @@ module _ {w : List ℕ} {first : ℕ} (first-is : first ≡ firstFormLine (sheet
         only = only-trans (t .only) (k .only);
       }
     where
-      faultsOf : (ℕ → ℕ → Bool) → Sheet → List Fault
+      faultsOf : (ℕ → ℕ → FitAnswer) → Sheet → List Fault
       faultsOf fit s = none ∷ codeFaults (typedInstr fit s none none) s none (mainRows s) (s .main)
 
       main-same : mainFaultsIn w₁ ≡ mainFaultsIn w
-      main-same = λ x. faultsOf (slots-tells (t .only) x) (slots-sheet (t .only) x)
+      main-same = λ x. faultsOf (slots-answers (t .only) x) (slots-sheet (t .only) x)

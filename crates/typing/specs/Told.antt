@@ -9,7 +9,7 @@ use Rattle.table.specs.View.{sheetIn}
 use Rattle.code_typing.specs.declared.Walked.{Walked}
 use Rattle.code_typing.specs.Told.{judgeIn, OnlySlots, LinesJudged}
 
--- the lines of all forms, and of main, by the table's word on fit; and the rows of all slots of main
+-- the lines of all forms, and of main, by what the fit table says; and the rows of all slots of main
 abbrev pub formsFaultsIn : List ℕ → List Fault
 formsFaultsIn w = formsFaults (judgeIn w) (sheetIn w) 0 ((sheetIn w) .forms)
 
@@ -24,7 +24,7 @@ pub record FormsJudged (first : ℕ) (w w′ : List ℕ) (r : Walked) : Type 0 w
   pub lines : LinesJudged (formsFaultsIn w) first w w′ r
   pub few : (n : ℕ) → r ≡ Walked.On n → n ≤ first + 17472
 
--- the verdict on the sheet in the table is the rule's, by the table's word on fit, and only rows of slots have changed
+-- the verdict on the sheet in the table is the rule's, by what the fit table says, and only rows of slots have changed
 pub record SheetJudged (w w′ : List ℕ) (v : Verdict) : Type 0 where
   pub told : v ≡ firstFault (firstFormLine (sheetIn w)) (lineFaults (judgeIn w) (sheetIn w))
   pub only : OnlySlots w w′

@@ -8,8 +8,7 @@ use Rattle.sheet_rules.specs.declared.Reason.{Reason}
 use Rattle.sheet_rules.specs.declared.Verdict.{Verdict}
 use Rattle.sheet_rules.specs.Sheet.{Sheet}
 use Rattle.sheet_rules.specs.Reading.{readable, meaning}
-use Rattle.sheet_rules.specs.WellFormed.{WellFormed}
-use Rattle.type_rules.specs.Fit.{fits}
+use Rattle.type_rules.specs.Fit.{fitAnswer}
 use Rattle.type_rules.specs.Typing.{lineFaults, typedLines, firstFormLine, firstFault, typing, verdictOn, verdict}
 use Rattle.type_rules.proofs.AgreeLaws.{faults-agree}
 use Rattle.table.specs.Layout.{rowCountAt, workSize}
@@ -17,15 +16,16 @@ use Rattle.table.specs.View.{cell, sheetIn}
 use Rattle.table.specs.Whole.{Whole}
 use Rattle.table.proofs.ViewLaws.{SameTable, only-trans, only-widen}
 use Rattle.table.proofs.PoolLaws.{placed-same}
-use Rattle.table.proofs.RowLaws.{rows-length}
 use Rattle.accepted.proofs.AcceptedLaws.{accepted-text}
 use Rattle.question.specs.Asked.{ToldAlone}
 use Rattle.reader.specs.Reads.{SheetRead}
 use Rattle.reader.proofs.MainLaws.{not-accepted}
 use Rattle.reader.proofs.SheetLaws.{read-means}
 use Rattle.reader.proofs.OnReading.{read-only, read-whole, told-unread}
-use Rattle.fit.specs.Told.{tells, Comparable, FitFilled}
-use Rattle.fit.proofs.SheetLaws.{sheet-comparable, filled-sheet, sheet-tells}
+use Rattle.fit.specs.Told.{Comparable, FitFilled}
+use Rattle.fit.proofs.SheetLaws.{sheet-comparable, filled-sheet, filled-whole}
+use Rattle.fit_answer.specs.Told.{answers}
+use Rattle.fit_answer.proofs.SheetLaws.{sheet-answers}
 use Rattle.code_typing.specs.Told.{judgeIn}
 use Rattle.code_typing.proofs.CodeLaws.{slots-sheet}
 use Rattle.typing.specs.Told.{SheetJudged}
@@ -49,29 +49,25 @@ module _ {text w w₁ : List ℕ} {v : Verdict} (size : workSize ≤ length w) (
     means : meaning text ≡ readable (sheetIn w₁)
     means = read-means text w w₁ size accepted
 
-    well : WellFormed (sheetIn w₁)
-    well = read-whole size s e .sheet
-
-    size₁ : workSize ≤ length w₁
-    size₁ = read-whole size s e .size
+    whole : Whole w₁
+    whole = read-whole size s e
 
     pub fill-comparable : {rows : ℕ} → rows ≡ cell w₁ rowCountAt → Comparable rows w₁
-    fill-comparable n = subst (λ (k : ℕ). Comparable k w₁) (sym n) (sheet-comparable w₁ size₁ well)
+    fill-comparable n = subst (λ (k : ℕ). Comparable k w₁) (sym n) (sheet-comparable w₁ whole)
 
     -- with the fit table filled
     module _ {rows : ℕ} (rows-are : rows ≡ cell w₁ rowCountAt) {w₂ : List ℕ} (f : FitFilled rows w₁ w₂) where
       same-sheet : sheetIn w₂ ≡ sheetIn w₁
       same-sheet = filled-sheet rows w₁ w₂ f
 
-      pub filled-whole : Whole w₂
-      filled-whole = record { size = omega (arith, f .only .size, size₁); sheet = subst WellFormed (sym same-sheet) well }
+      pub judge-asks : Whole w₂
+      judge-asks = filled-whole rows w₁ w₂ f whole
 
-      agree : (a b : ℕ) → a < length ((sheetIn w₁) .rows) → b < length ((sheetIn w₁) .rows) → tells w₂ a b ≡ fits ((sheetIn w₁) .rows) a b
-      agree a b h k =
-          sheet-tells w₁ w₂ (subst (λ (n : ℕ). FitFilled n w₁ w₂) rows-are f) a b (omega (arith, rows-length w₁)) (omega (arith, rows-length w₁))
+      agree : (a b : ℕ) → a < length ((sheetIn w₁) .rows) → b < length ((sheetIn w₁) .rows) → answers w₂ a b ≡ fitAnswer ((sheetIn w₁) .rows) a b
+      agree = sheet-answers w₁ w₂ (subst (λ (n : ℕ). FitFilled n w₁ w₂) rows-are f) (whole .sheet)
 
-      faults-are : lineFaults (judgeIn w₂) (sheetIn w₂) ≡ lineFaults (typedLines (fits ((sheetIn w₁) .rows)) (sheetIn w₁)) (sheetIn w₁)
-      faults-are = ap (λ (x : Sheet). lineFaults (typedLines (tells w₂) x) x) same-sheet ∙ faults-agree well agree
+      faults-are : lineFaults (judgeIn w₂) (sheetIn w₂) ≡ lineFaults (typedLines (fitAnswer ((sheetIn w₁) .rows)) (sheetIn w₁)) (sheetIn w₁)
+      faults-are = ap (λ (x : Sheet). lineFaults (typedLines (answers w₂) x) x) same-sheet ∙ faults-agree (whole .sheet) agree
 
       rule : firstFault (firstFormLine (sheetIn w₂)) (lineFaults (judgeIn w₂) (sheetIn w₂)) ≡ verdict text
       unfolding verdict typing
@@ -91,7 +87,7 @@ module _ {text w w₁ : List ℕ} {v : Verdict} (size : workSize ≤ length w) (
                       (only-widen (omega arith) (omega arith) (k .only));
                 };
             sheet = λ c. read;
-            accepted = λ c. accepted-text text w′ (omega (arith, k .only .size, f .only .size, size₁)) read (sym (k .told ∙ rule) ∙ c) (placed-same w₁ w′ table-same (s .placed e));
+            accepted = λ c. accepted-text text w′ (omega (arith, k .only .size, f .only .size, whole .size)) read (sym (k .told ∙ rule) ∙ c) (placed-same w₁ w′ table-same (s .placed e));
           }
         where
           read : meaning text ≡ readable (sheetIn w′)

@@ -1,7 +1,7 @@
 //! The wrapper on the paper's sheet, and on the example of each refusal.
 
-use lexondar::{authority, fits, form, group, report, run, verdict};
-use lexondar::{Held, Holders, Outcome, Reason, Refusal, Run, Work, MAIN};
+use lexondar::{authority, fit, form, group, report, run, verdict};
+use lexondar::{Fit, Held, Holders, Lack, Outcome, Reason, Refusal, Run, Work, MAIN};
 
 const CLERK: &[u8] = include_bytes!("../../../examples/clerk.sheet");
 const MAKERS: &[u8] = include_bytes!("../../../examples/makers.sheet");
@@ -22,8 +22,9 @@ fn the_clerk_is_accepted_and_runs() {
         objects: 3,
     };
     assert_eq!(run(CLERK, 7, &mut work), Ok(spent));
-    assert_eq!(fits(CLERK, 1, 1, &mut work), Ok(true));
-    assert_eq!(fits(CLERK, 1, 0, &mut work), Ok(false));
+    assert_eq!(fit(CLERK, 1, 1, &mut work), Ok(Fit::Yes));
+    assert_eq!(fit(CLERK, 1, 0, &mut work), Ok(Fit::Kind));
+    assert_eq!(fit(CLERK, 1, 2, &mut work), Ok(Fit::Member(2)));
 }
 
 #[test]
@@ -92,7 +93,7 @@ const REFUSED: [(&str, Reason, u32); 8] = [
     ("refused-7-slot", Reason::NotDefined, 20),
     ("refused-8-pure", Reason::ImpureForm, 13),
     ("refused-9-method", Reason::NoSuchMember, 20),
-    ("refused-10-misfit", Reason::Misfit, 19),
+    ("refused-10-misfit", Reason::Misfit(Lack::Member(1)), 19),
 ];
 
 #[test]
@@ -106,6 +107,51 @@ fn each_refusal_has_its_name() {
     let long = vec![b'\n'; 65_536];
     assert_eq!(verdict(&long, &mut work), refused(Reason::TextTooLong, 0));
     assert_eq!(verdict(b"", &mut work), refused(Reason::Malformed, 1));
+}
+
+/// Rows 0 pure; 1 resource, method 4; 2 resource, field 4 and method 5.
+const ROWS: &[u8] = b"types=3\ntype=0,0\ntype=1,1\ndef=4,0,0\ntype=1,2\nvar=4,0\ndef=5,0,0\n\
+                      forms=1\nform=0,0\nmain=1\nnew=0\n";
+
+#[test]
+fn what_is_lacking_is_said_in_words() {
+    let mut work = Work::new();
+    let cases = [
+        (1, 1, "row 1 fits row 1"),
+        (2, 0, "row 0 asks for a pure row"),
+        (0, 1, "row 1 asks for method 4"),
+        (2, 1, "row 1 asks for method 4"),
+        (1, 2, "row 2 asks for field 4"),
+    ];
+    for (a, b, words) in cases {
+        let answer = fit(ROWS, a, b, &mut work).expect("both rows are there");
+        assert_eq!(answer.words(ROWS, a, b), words);
+    }
+}
+
+#[test]
+fn a_misfit_says_what_is_lacking() {
+    let mut work = Work::new();
+    let clerk = String::from_utf8(CLERK.to_vec()).expect("plain text");
+    let misfit = |line: &str, by: &str| clerk.replace(line, by).into_bytes();
+    let cases = [
+        (misfit("new=2,1", "new=2"), Lack::Count, 19),
+        (misfit("call=2,2,0", "call=2,2,1"), Lack::Kind, 20),
+        (misfit("new=2,1", "new=2,0"), Lack::Member(1), 19),
+    ];
+    for (text, lack, line) in cases {
+        let refusal = verdict(&text, &mut work).expect_err("a misfit");
+        let wanted = Refusal {
+            reason: Reason::Misfit(lack),
+            line,
+        };
+        assert_eq!(refusal, wanted);
+        assert_eq!(refusal.reason.lack(), Some(lack));
+        let words = format!("refusal 10 at line {line}: a value does not fit: {lack}");
+        assert_eq!(refusal.to_string(), words);
+    }
+    let words = "the wanted row asks for member 1";
+    assert_eq!(Lack::Member(1).to_string(), words);
 }
 
 #[test]

@@ -1,7 +1,8 @@
 //! The authority question against the second program.
 
 use crate::common::{budget_for, draw, is_left_clean, is_written, noise};
-use boundary::{authority, AuthorityResult, AUTHORITY, WORK};
+use crate::refused::{held_of, NONE};
+use boundary::{authority, four, AuthorityResult, AUTHORITY, WORK};
 use second::authority::authority_of;
 use second::machine::Machine;
 use second::{Reason, Refusal};
@@ -58,15 +59,9 @@ impl Seen {
         let (mut work, mut result) = (entry.work.clone(), entry.result.clone());
         let answer = authority(text, budget, holder, &mut work, &mut result);
         let held = wanted.clone().unwrap_or_default();
-        let (refusal, line) = match wanted {
-            Ok(_) => (0, 0),
-            Err(refusal) => (refusal.number(), refusal.line),
-        };
-        let count = held.len() as u32;
         let wanted = AuthorityResult {
-            refusal,
-            line,
-            count,
+            count: held.len() as u32,
+            ..held_of(wanted.err().map_or(NONE, four))
         };
         assert_eq!(answer, wanted, "{name}");
         is_written(&result, &entry.result, &held, &name);

@@ -1,21 +1,14 @@
 //! The reading pass and the fit question against the second program.
 
 use crate::common::{is_left_clean, noise};
-use boundary::{fit, FitResult, WORK};
-use second::Refusal;
+use crate::refused::{answer_of, fit_of, SHORT};
+use boundary::{fit, four, FitResult, WORK};
+use second::{FitAnswer, Refusal};
 
-fn wanted(answer: Result<bool, Refusal>) -> FitResult {
+fn wanted(answer: Result<FitAnswer, Refusal>) -> FitResult {
     match answer {
-        Ok(fits) => FitResult {
-            refusal: 0,
-            line: 0,
-            fits: fits.into(),
-        },
-        Err(refusal) => FitResult {
-            refusal: refusal.number(),
-            line: refusal.line,
-            fits: 0,
-        },
+        Ok(answer) => answer_of(answer),
+        Err(refusal) => fit_of(four(refusal)),
     }
 }
 
@@ -44,7 +37,7 @@ fn reading_agrees_on_20000_sheets() {
 
 #[test]
 fn all_pairs_of_rows_agree_on_300_sheets() {
-    let (mut sheets, mut yes, mut no) = (0, 0, 0);
+    let (mut sheets, mut lacks) = (0, [0_u32; 4]);
     for index in 0.. {
         let text = generator::sheet(32, index);
         let Ok(sheet) = second::read(&text) else {
@@ -57,11 +50,8 @@ fn all_pairs_of_rows_agree_on_300_sheets() {
             for b in 0..rows {
                 let answer = fit(&text, a.into(), b.into(), &mut work);
                 let name = format!("sheet {index}, rows {a} and {b}");
-                assert_eq!(answer, wanted(Ok(table.fits(a, b))), "{name}");
-                match answer.fits {
-                    0 => no += 1,
-                    _ => yes += 1,
-                }
+                assert_eq!(answer, wanted(Ok(table.answer(a, b))), "{name}");
+                lacks[answer.lack as usize] += 1;
             }
         }
         sheets += 1;
@@ -69,7 +59,9 @@ fn all_pairs_of_rows_agree_on_300_sheets() {
             break;
         }
     }
-    assert!(yes > 1_000 && no > 1_000, "{yes} yes and {no} no");
+    let [yes, count, kind, member] = lacks;
+    assert!(yes.min(kind).min(member) > 1_000, "{lacks:?}");
+    assert_eq!(count, 0);
 }
 
 #[test]
@@ -79,11 +71,7 @@ fn a_row_that_is_not_there_is_refused_at_line_0() {
         compare(text, a, b, &noise(7, WORK), &format!("rows {a} and {b}"));
     }
     let mut work = noise(8, WORK);
-    let loose = FitResult {
-        refusal: 7,
-        line: 0,
-        fits: 0,
-    };
+    let loose = fit_of([7, 0, 0, 0]);
     assert_eq!(fit(text, usize::MAX, 0, &mut work), loose);
 }
 
@@ -94,12 +82,7 @@ fn a_short_buffer_is_refused_first_and_left_as_it_was() {
         for text in [&b""[..], &long[..]] {
             let entry = noise(9, length);
             let mut work = entry.clone();
-            let short = FitResult {
-                refusal: 1,
-                line: 0,
-                fits: 0,
-            };
-            assert_eq!(fit(text, 0, 0, &mut work), short);
+            assert_eq!(fit(text, 0, 0, &mut work), fit_of(SHORT));
             assert_eq!(work, entry);
         }
     }

@@ -2,17 +2,8 @@
 //! edges of its buffer, of the text and of the numbers.
 
 use crate::common::{is_left_clean, lines, noise, CLERK};
-use boundary::{form, FormResult, WORK};
-
-/// The answer to a refused call.
-pub fn refused_at(refusal: u32, line: u32) -> FormResult {
-    FormResult {
-        refusal,
-        line,
-        start: 0,
-        length: 0,
-    }
-}
+use crate::refused::{form_of, NONE, SHORT};
+use boundary::{form, four, FormResult, WORK};
 
 /// The second program's answer, as a place in the text.
 pub fn stretch_of(text: &[u8], number: usize) -> FormResult {
@@ -20,9 +11,9 @@ pub fn stretch_of(text: &[u8], number: usize) -> FormResult {
         Ok(part) => FormResult {
             start: part.as_ptr() as usize - text.as_ptr() as usize,
             length: part.len(),
-            ..refused_at(0, 0)
+            ..form_of(NONE)
         },
-        Err(refusal) => refused_at(refusal.number(), refusal.line),
+        Err(refusal) => form_of(four(refusal)),
     }
 }
 
@@ -71,12 +62,12 @@ fn every_form_and_one_too_many_agree_on_500_readable_sheets() {
 fn a_form_that_is_not_there_is_refused_at_line_0() {
     for number in [3, 4, 63, 64, 65_535, 65_536, 65_538, usize::MAX] {
         let answer = compare(CLERK, number, &noise(7, WORK), "the clerk");
-        assert_eq!(answer, refused_at(7, 0));
+        assert_eq!(answer, form_of([7, 0, 0, 0]));
     }
     let formless = lines("types=1 / type=0,0 / forms=0 / main=1 / get=0");
     for number in [0, 1] {
         let answer = compare(&formless, number, &noise(7, WORK), "no form");
-        assert_eq!(answer, refused_at(7, 0));
+        assert_eq!(answer, form_of([7, 0, 0, 0]));
     }
 }
 
@@ -85,7 +76,7 @@ fn a_refusal_of_reading_comes_before_the_missing_form() {
     let torn = &CLERK[..CLERK.len() - 1];
     for number in [0, 2, 3, usize::MAX] {
         let answer = compare(torn, number, &noise(8, WORK), "a torn sheet");
-        assert_eq!(answer, refused_at(3, 20));
+        assert_eq!(answer, form_of([3, 20, 0, 0]));
     }
 }
 
@@ -95,7 +86,7 @@ fn a_short_buffer_is_refused_first_and_left_as_it_was() {
         for text in [&b""[..], CLERK, &[b'x'; 65_536]] {
             let entry = noise(9, length);
             let mut work = entry.clone();
-            assert_eq!(form(text, 1, &mut work), refused_at(1, 0));
+            assert_eq!(form(text, 1, &mut work), form_of(SHORT));
             assert_eq!(work, entry);
         }
     }

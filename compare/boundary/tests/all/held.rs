@@ -1,6 +1,7 @@
 //! What is looked at when a holder, or a list of them, is asked for.
 
 use crate::common::{is_left_clean, is_written, noise};
+use crate::refused::{held_of, SHORT};
 use boundary::{AuthorityResult, AUTHORITY, WORK};
 
 /// The work buffer and the result buffer.
@@ -28,9 +29,8 @@ pub fn check(
 ) {
     let count = held.len() as u32;
     let wanted = AuthorityResult {
-        refusal,
-        line,
         count,
+        ..held_of([refusal, line, 0, 0])
     };
     for lengths in [(WORK, AUTHORITY), (WORK + 5, AUTHORITY + 9)] {
         let (answer, entry, exit) = ask(lengths, &call);
@@ -44,11 +44,6 @@ pub fn check(
 /// line 0, and both are left as they were.
 pub fn is_short(lengths: (usize, usize), call: impl Fn(&mut [u16], &mut [u16]) -> AuthorityResult) {
     let (answer, entry, exit) = ask(lengths, call);
-    let refused = AuthorityResult {
-        refusal: 1,
-        line: 0,
-        count: 0,
-    };
-    assert_eq!(answer, refused, "{lengths:?}");
+    assert_eq!(answer, held_of(SHORT), "{lengths:?}");
     assert!(entry == exit, "{lengths:?}");
 }

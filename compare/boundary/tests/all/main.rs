@@ -13,6 +13,7 @@ mod memory;
 mod printed;
 mod program;
 mod questions;
+mod refused;
 mod report;
 mod run;
 mod run_edges;

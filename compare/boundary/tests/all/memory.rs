@@ -3,7 +3,7 @@
 //! rests on what was never written.
 
 use boundary::{authority, fit, form, group, report, run, verdict};
-use boundary::{AUTHORITY, GROUP, REPORT, WORK};
+use boundary::{Begins, AUTHORITY, GROUP, REPORT, WORK};
 use std::path::{Path, PathBuf};
 use std::process::Command;
 
@@ -53,8 +53,10 @@ impl Sum {
         self.0 = self.0.wrapping_mul(31).wrapping_add(number.into());
     }
 
-    fn add_fields(&mut self, fields: &[u32]) {
-        fields.iter().for_each(|field| self.add(*field));
+    /// A result: the four numbers that it begins with, and its other fields.
+    fn add_fields(&mut self, result: &impl Begins, fields: &[u32]) {
+        let all = result.four().into_iter().chain(fields.iter().copied());
+        all.for_each(|field| self.add(field));
     }
 
     fn add_result(&mut self, result: &[u16]) {
@@ -68,7 +70,7 @@ impl Sum {
         let list: Vec<u16> = numbers.collect();
         for members in 0..=list.len() {
             let g = group(text, budget, &list[..members], work, held);
-            self.add_fields(&[g.refusal, g.line, g.count]);
+            self.add_fields(&g, &[g.count]);
             self.add_result(&held[..g.count as usize]);
         }
     }
@@ -77,7 +79,7 @@ impl Sum {
     fn add_forms(&mut self, text: &[u8], work: &mut [u16]) {
         for number in 0..4 {
             let g = form(text, number, work);
-            self.add_fields(&[g.refusal, g.line, g.start as u32, g.length as u32]);
+            self.add_fields(&g, &[g.start as u32, g.length as u32]);
             let part = &text[g.start..g.start + g.length];
             let ends = part.first().into_iter().chain(part.last());
             ends.for_each(|byte| self.add((*byte).into()));
@@ -88,20 +90,19 @@ impl Sum {
     fn add_sheet(&mut self, text: &[u8]) {
         let (mut work, mut held, mut all) = (vec![7; WORK], vec![7; AUTHORITY], vec![7; REPORT]);
         let g = verdict(text, &mut work);
-        self.add_fields(&[g.refusal, g.line]);
+        self.add_fields(&g, &[]);
         for budget in [0, 300] {
             let g = fit(text, 1, 0, &mut work);
-            self.add_fields(&[g.refusal, g.line, g.fits]);
+            self.add_fields(&g, &[g.fits]);
             self.add_forms(text, &mut work);
             let g = run(text, budget, &mut work);
-            self.add_fields(&[g.refusal, g.line, g.outcome, g.steps, g.value, g.objects]);
+            self.add_fields(&g, &[g.outcome, g.steps, g.value, g.objects]);
             let g = authority(text, budget, 256, &mut work, &mut held);
-            self.add_fields(&[g.refusal, g.line, g.count]);
+            self.add_fields(&g, &[g.count]);
             self.add_result(&held[..g.count as usize]);
             self.add_groups((text, budget), &mut work, &mut held);
             let g = report(text, budget, &mut work, &mut all);
-            self.add_fields(&[g.refusal, g.line, g.outcome, g.steps, g.value]);
-            self.add_fields(&[g.objects, g.count]);
+            self.add_fields(&g, &[g.outcome, g.steps, g.value, g.objects, g.count]);
             self.add_result(&all[..g.count as usize]);
         }
     }

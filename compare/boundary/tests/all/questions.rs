@@ -2,10 +2,13 @@
 //! buffers that are one number too short, exactly as long as asked, or longer.
 
 use crate::common::{budget_for, draw, is_left_clean, is_written, noise};
-use crate::form::{refused_at, stretch_of};
+use crate::form::stretch_of;
+use crate::refused::{
+    answer_of, fit_of, form_of, held_of, report_of, run_of, verdict_of, NONE, SHORT,
+};
 use boundary::{
-    authority, entries, fit, form, group, report, run, verdict, AuthorityResult, FitResult,
-    ReportResult, RunResult, VerdictResult, AUTHORITY, REPORT, WORK,
+    authority, entries, fit, form, four, group, report, run, verdict, AuthorityResult,
+    ReportResult, RunResult, AUTHORITY, REPORT, WORK,
 };
 use second::machine::Machine;
 use second::Refusal;
@@ -66,16 +69,11 @@ impl Case<'_> {
             drawn => (drawn % 12) as u32,
         };
         let (a, b) = (row(101), row(102));
-        let of = |refusal, line, fits| FitResult {
-            refusal,
-            line,
-            fits,
-        };
         let wanted = match second::fit(self.text, a, b) {
-            Ok(fits) => of(0, 0, fits.into()),
-            Err(refusal) => of(refusal.number(), refusal.line, 0),
+            Ok(answer) => answer_of(answer),
+            Err(refusal) => fit_of(four(refusal)),
         };
-        self.ask((10, 0), (wanted, &[]), of(1, 0, 0), seen, |work, _| {
+        self.ask((10, 0), (wanted, &[]), fit_of(SHORT), seen, |work, _| {
             fit(self.text, a as usize, b as usize, work)
         });
     }
@@ -87,18 +85,16 @@ impl Case<'_> {
         };
         let wanted = stretch_of(self.text, number);
         let asked = (70, 0);
-        self.ask(asked, (wanted, &[]), refused_at(1, 0), seen, |work, _| {
+        self.ask(asked, (wanted, &[]), form_of(SHORT), seen, |work, _| {
             form(self.text, number, work)
         });
     }
 
     fn ask_verdict(&self, seen: &mut Lengths) {
-        let of = |refusal, line| VerdictResult { refusal, line };
-        let wanted = match second::verdict(self.text) {
-            Ok(()) => of(0, 0),
-            Err(refusal) => of(refusal.number(), refusal.line),
-        };
-        self.ask((20, 0), (wanted, &[]), of(1, 0), seen, |work, _| {
+        let refusal = second::verdict(self.text).err();
+        let wanted = verdict_of(refusal.map_or(NONE, four));
+        let short = verdict_of(SHORT);
+        self.ask((20, 0), (wanted, &[]), short, seen, |work, _| {
             verdict(self.text, work)
         });
     }
@@ -106,26 +102,26 @@ impl Case<'_> {
     /// Run, authority, group and report of a text that is refused.
     fn ask_refused(&self, refusal: Refusal, seen: &mut Lengths) {
         let budget = draw(!self.seed) as u32;
-        let (number, line) = (refusal.number(), refusal.line);
+        let refusal = four(refusal);
         let text = self.text;
-        let wanted = (run_of(number, line), &[][..]);
-        self.ask((30, 0), wanted, run_of(1, 0), seen, |work, _| {
+        let wanted = (run_of(refusal), &[][..]);
+        self.ask((30, 0), wanted, run_of(SHORT), seen, |work, _| {
             run(text, budget, work)
         });
-        let wanted = (held_of(number, line), &[][..]);
+        let wanted = (held_of(refusal), &[][..]);
         let asked = (40, AUTHORITY);
-        self.ask(asked, wanted, held_of(1, 0), seen, |work, result| {
+        self.ask(asked, wanted, held_of(SHORT), seen, |work, result| {
             authority(text, budget, 256, work, result)
         });
-        let wanted = (report_of(number, line), &[][..]);
+        let wanted = (report_of(refusal), &[][..]);
         let asked = (50, REPORT);
-        self.ask(asked, wanted, report_of(1, 0), seen, |work, result| {
+        self.ask(asked, wanted, report_of(SHORT), seen, |work, result| {
             report(text, budget, work, result)
         });
         let list = self.list(9);
-        let wanted = (held_of(number, line), &[][..]);
+        let wanted = (held_of(refusal), &[][..]);
         let asked = (60, AUTHORITY);
-        self.ask(asked, wanted, held_of(1, 0), seen, |work, result| {
+        self.ask(asked, wanted, held_of(SHORT), seen, |work, result| {
             group(text, budget, &list, work, result)
         });
     }
@@ -148,9 +144,9 @@ impl Case<'_> {
             steps: ran.steps,
             value: ran.value.into(),
             objects: ran.objects.into(),
-            ..run_of(0, 0)
+            ..run_of(NONE)
         };
-        self.ask((30, 0), (wanted, &[]), run_of(1, 0), seen, |work, _| {
+        self.ask((30, 0), (wanted, &[]), run_of(SHORT), seen, |work, _| {
             run(text, budget, work)
         });
         self.ask_holder(budget, seen);
@@ -161,9 +157,9 @@ impl Case<'_> {
             value: wanted.value,
             objects: wanted.objects,
             count: numbers.len() as u32,
-            ..report_of(0, 0)
+            ..report_of(NONE)
         };
-        let (asked, short) = ((50, REPORT), report_of(1, 0));
+        let (asked, short) = ((50, REPORT), report_of(SHORT));
         self.ask(asked, (wanted, &numbers), short, seen, |work, result| {
             report(text, budget, work, result)
         });
@@ -176,7 +172,7 @@ impl Case<'_> {
         let wide: Vec<u32> = list.iter().map(|number| (*number).into()).collect();
         let held = second::group(self.text, budget, &wide);
         let numbers = held.clone().unwrap_or_default();
-        let (asked, short) = ((60, AUTHORITY), held_of(1, 0));
+        let (asked, short) = ((60, AUTHORITY), held_of(SHORT));
         let wanted = held_like(&held);
         self.ask(asked, (wanted, &numbers), short, seen, |work, result| {
             group(self.text, budget, &list, work, result)
@@ -190,29 +186,10 @@ impl Case<'_> {
         let held = second::authority(self.text, budget, holder);
         let numbers = held.clone().unwrap_or_default();
         let wanted = held_like(&held);
-        let (asked, short) = ((40, AUTHORITY), held_of(1, 0));
+        let (asked, short) = ((40, AUTHORITY), held_of(SHORT));
         self.ask(asked, (wanted, &numbers), short, seen, |work, result| {
             authority(self.text, budget, holder as usize, work, result)
         });
-    }
-}
-
-fn run_of(refusal: u32, line: u32) -> RunResult {
-    RunResult {
-        refusal,
-        line,
-        outcome: 0,
-        steps: 0,
-        value: 0,
-        objects: 0,
-    }
-}
-
-fn held_of(refusal: u32, line: u32) -> AuthorityResult {
-    AuthorityResult {
-        refusal,
-        line,
-        count: 0,
     }
 }
 
@@ -221,21 +198,9 @@ fn held_like(held: &Result<Vec<u16>, Refusal>) -> AuthorityResult {
     match held {
         Ok(numbers) => AuthorityResult {
             count: numbers.len() as u32,
-            ..held_of(0, 0)
+            ..held_of(NONE)
         },
-        Err(refusal) => held_of(refusal.number(), 0),
-    }
-}
-
-fn report_of(refusal: u32, line: u32) -> ReportResult {
-    ReportResult {
-        refusal,
-        line,
-        outcome: 0,
-        steps: 0,
-        value: 0,
-        objects: 0,
-        count: 0,
+        Err(refusal) => held_of(four(*refusal)),
     }
 }
 

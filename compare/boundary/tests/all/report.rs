@@ -1,40 +1,27 @@
 //! The report against the second program: the run, and every holder's entry.
 
 use crate::common::{budget_for, draw, is_left_clean, is_written, noise, CLERK};
-use boundary::{entries, report, ReportResult, REPORT, WORK};
+use crate::refused::{report_of, NONE, SHORT};
+use boundary::{entries, four, report, ReportResult, REPORT, WORK};
 use second::machine::Machine;
-use second::{Refusal, RunAnswer};
-
-fn refused(refusal: u32, line: u32) -> ReportResult {
-    ReportResult {
-        refusal,
-        line,
-        outcome: 0,
-        steps: 0,
-        value: 0,
-        objects: 0,
-        count: 0,
-    }
-}
+use second::RunAnswer;
 
 fn ran(run: RunAnswer, count: usize) -> ReportResult {
     ReportResult {
-        refusal: 0,
-        line: 0,
         outcome: run.outcome as u32,
         steps: run.steps,
         value: run.value.into(),
         objects: run.objects.into(),
         count: count as u32,
+        ..report_of(NONE)
     }
 }
 
 /// The second program's answer and numbers, and the budget that they are for.
 fn wanted(text: &[u8], seed: u64) -> (u32, ReportResult, Vec<u16>) {
     let any = draw(!seed) as u32;
-    let of_refused = |refusal: Refusal| refused(refusal.number(), refusal.line);
     if let Err(refusal) = second::verdict(text) {
-        return (any, of_refused(refusal), Vec::new());
+        return (any, report_of(four(refusal)), Vec::new());
     }
     let sheet = second::read(text).expect("an accepted sheet");
     let budget = budget_for(&sheet, seed);
@@ -118,7 +105,7 @@ fn the_clerk_in_buffers_of_exactly_the_size() {
         steps: 8,
         objects: 3,
         count: 11,
-        ..refused(0, 0)
+        ..report_of(NONE)
     };
     assert_eq!(answer, wanted);
     let numbers = [256, 2, 1, 2, 1, 1, 1, 2, 2, 1, 2];
@@ -144,7 +131,7 @@ fn a_short_buffer_is_refused_first_and_both_are_left_as_they_were() {
             let (mut work, mut result) = (work_entry.clone(), result_entry.clone());
             let answer = report(text, 8, &mut work, &mut result);
             let name = format!("{work_length} and {result_length}");
-            assert_eq!(answer, refused(1, 0), "{name}");
+            assert_eq!(answer, report_of(SHORT), "{name}");
             assert!(work == work_entry && result == result_entry, "{name}");
         }
     }

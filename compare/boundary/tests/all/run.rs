@@ -1,7 +1,8 @@
 //! The run against the second program.
 
 use crate::common::{is_left_clean, noise, CLERK};
-use boundary::{run, RunResult, WORK};
+use crate::refused::{run_of, NONE, SHORT};
+use boundary::{four, run, RunResult, WORK};
 use second::machine::Machine;
 use second::{Outcome, Refusal, RunAnswer, Sheet};
 
@@ -12,21 +13,13 @@ const LONG: u32 = 100_000;
 fn wanted(answer: Result<RunAnswer, Refusal>) -> RunResult {
     match answer {
         Ok(run) => RunResult {
-            refusal: 0,
-            line: 0,
             outcome: run.outcome as u32,
             steps: run.steps,
             value: run.value.into(),
             objects: run.objects.into(),
+            ..run_of(NONE)
         },
-        Err(refusal) => RunResult {
-            refusal: refusal.number(),
-            line: refusal.line,
-            outcome: 0,
-            steps: 0,
-            value: 0,
-            objects: 0,
-        },
+        Err(refusal) => run_of(four(refusal)),
     }
 }
 
@@ -127,15 +120,7 @@ fn a_short_buffer_is_refused_first_and_left_as_it_was() {
             for budget in [0, 8, u32::MAX] {
                 let entry = noise(9, length);
                 let mut work = entry.clone();
-                let short = RunResult {
-                    refusal: 1,
-                    line: 0,
-                    outcome: 0,
-                    steps: 0,
-                    value: 0,
-                    objects: 0,
-                };
-                assert_eq!(run(text, budget, &mut work), short);
+                assert_eq!(run(text, budget, &mut work), run_of(SHORT));
                 assert_eq!(work, entry);
             }
         }

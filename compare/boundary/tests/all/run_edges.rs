@@ -2,6 +2,7 @@
 //! paper gives.
 
 use crate::common::{is_left_clean, noise, CLERK, LOOP};
+use crate::refused::{run_of, NONE};
 use boundary::{run, RunResult, WORK};
 
 const DONE: u32 = 0;
@@ -16,12 +17,11 @@ fn check(text: &[u8], budget: u32, (outcome, steps, value, objects): (u32, u32, 
     let entry = noise(budget.into(), WORK + 5);
     let mut work = entry.clone();
     let wanted = RunResult {
-        refusal: 0,
-        line: 0,
         outcome,
         steps,
         value,
         objects,
+        ..run_of(NONE)
     };
     assert_eq!(run(text, budget, &mut work), wanted, "{name}");
     is_left_clean(&work, &entry, &name);

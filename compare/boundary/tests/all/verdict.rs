@@ -1,19 +1,12 @@
 //! The typing verdict against the second program.
 
 use crate::common::{is_left_clean, noise};
-use boundary::{verdict, VerdictResult, WORK};
+use crate::refused::{verdict_of, NONE, SHORT};
+use boundary::{four, verdict, VerdictResult, WORK};
 
 fn wanted(text: &[u8]) -> VerdictResult {
-    match second::verdict(text) {
-        Ok(()) => VerdictResult {
-            refusal: 0,
-            line: 0,
-        },
-        Err(refusal) => VerdictResult {
-            refusal: refusal.number(),
-            line: refusal.line,
-        },
-    }
+    let refusal = second::verdict(text).err();
+    verdict_of(refusal.map_or(NONE, four))
 }
 
 /// Asks, compares, and looks at every number of the buffer afterwards.
@@ -27,16 +20,18 @@ fn compare(text: &[u8], entry: &[u16], name: &str) -> VerdictResult {
 
 #[test]
 fn the_verdict_agrees_on_20000_sheets() {
-    let mut seen = [0_u32; 12];
+    let (mut seen, mut lacks) = ([0_u32; 12], [0_u32; 4]);
     for index in 0..20_000 {
         let text = generator::sheet(41, index);
         let entry = noise(index + 1, WORK + (index as usize % 3) * 7);
         let answer = compare(&text, &entry, &format!("sheet {index}"));
         seen[answer.refusal as usize] += 1;
+        lacks[answer.lack as usize] += 1;
     }
     for number in [0, 2, 3, 4, 5, 6, 7, 8, 9, 10] {
         assert!(seen[number] > 0, "{number} was never the answer");
     }
+    assert!(lacks.iter().all(|count| *count > 200), "{lacks:?}");
 }
 
 /// Document 01's sheet P, with one line changed.
@@ -77,11 +72,8 @@ fn a_short_buffer_is_refused_first_and_left_as_it_was() {
     for length in [0, WORK - 1] {
         let entry = noise(9, length);
         let mut work = entry.clone();
-        let short = VerdictResult {
-            refusal: 1,
-            line: 0,
-        };
-        assert_eq!(verdict(&p_with(1, "types=3"), &mut work), short);
+        let answer = verdict(&p_with(1, "types=3"), &mut work);
+        assert_eq!(answer, verdict_of(SHORT));
         assert_eq!(work, entry);
     }
 }

@@ -5,5 +5,6 @@ mod edges;
 mod forms;
 mod groups;
 mod mills;
+mod misfits;
 mod report;
 mod sheets;

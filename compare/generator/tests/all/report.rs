@@ -22,6 +22,9 @@ fn a_run_of_sheets_reaches_everything() {
         assert!(*uses >= 20, "census {place}: {uses}");
     }
     assert!(report.fits.iter().all(|count| *count > 0));
+    assert!(report.causes.iter().all(|count| *count > 0));
+    assert_eq!(report.lacks.iter().sum::<u64>(), report.refusals[10]);
+    assert!(report.lacks[1..].iter().all(|count| *count > 0));
     let [answered, not] = report.groups;
     assert_eq!(answered + not, report.accepted);
     assert!(answered.min(not) * 3 > report.accepted);
@@ -34,11 +37,13 @@ fn a_run_of_sheets_reaches_everything() {
 
 #[test]
 fn what_is_missing_is_told() {
-    assert_eq!(Report::default().missing().len(), 13);
+    // Refusals, outcomes, and the cases of misfit alone and beside others.
+    assert_eq!(Report::default().missing().len(), 9 + 4 + 24 + 31);
     let few = program(&["report", "1", "3"]);
     assert_eq!(few.status.code(), Some(1));
     let message = String::from_utf8_lossy(&few.stderr).into_owned();
     assert!(message.contains("refusal 2, refusal 3"), "{message}");
+    assert!(message.contains("misfit by put, kind alone"), "{message}");
 }
 
 #[test]

@@ -19,7 +19,7 @@ fn the_seed_and_the_index_decide_every_byte() {
     let same = all(5).iter().zip(all(6)).filter(|(a, b)| *a == b).count();
     // The edges are the same for every seed, and few others.
     assert!(
-        (30..50).contains(&same),
+        (25..45).contains(&same),
         "{same} of 200 sheets are the same"
     );
     let well_typed: Vec<_> = (0..40)

@@ -1,6 +1,6 @@
 //! What the tests share: the example sheets and small changes to them.
 
-use second::{Outcome, Refusal, RunAnswer};
+use second::{Lack, Outcome, Refusal, RunAnswer};
 
 /// P, the clerk before a scale.
 pub const CLERK: &[u8] = include_bytes!("../../../../examples/clerk.sheet");
@@ -25,6 +25,12 @@ pub fn with_line(text: &[u8], place: usize, line: &str) -> Vec<u8> {
 /// Refusal number and line of a verdict; zeros if the sheet is accepted.
 pub fn verdict(text: &[u8]) -> (u32, u32) {
     pair(second::verdict(text))
+}
+
+/// The line of a misfit and what is lacking.
+pub fn misfit(text: &[u8]) -> Option<(u32, Lack)> {
+    let refusal = second::verdict(text).err()?;
+    Some((refusal.line, refusal.lack()?))
 }
 
 /// Refusal number and line of any answer; zeros if there is none.

@@ -6,6 +6,7 @@ mod common;
 mod fit;
 mod form;
 mod group;
+mod lack;
 mod machine;
 mod paper;
 mod program;

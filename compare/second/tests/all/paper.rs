@@ -1,7 +1,7 @@
 //! The worked cases of the rules.
 
 use crate::common::*;
-use second::{authority, fit, Outcome, NO_VALUE};
+use second::{authority, fit, FitAnswer, Outcome, NO_VALUE};
 
 #[test]
 fn p1_clerk_is_done_after_eight_steps() {
@@ -77,7 +77,8 @@ fn six_rows() -> Vec<u8> {
 #[test]
 fn the_six_rows() {
     let text = six_rows();
-    let fits = |a, b| fit(&text, a, b).expect("a sheet that reads");
+    let answer = |a, b| fit(&text, a, b).expect("a sheet that reads");
+    let fits = |a, b| answer(a, b) == FitAnswer::Yes;
     assert!(fits(2, 3) && !fits(3, 2));
     assert!(fits(0, 1) && !fits(1, 0));
     assert!(!fits(4, 5) && !fits(5, 4));
@@ -86,6 +87,12 @@ fn the_six_rows() {
         assert!(fits(row, 1), "row {row} fits the empty resource");
     }
     assert!(fits(2, 0) && !fits(3, 0) && !fits(4, 0));
+    for (a, b) in [(3, 2), (1, 0), (3, 0), (4, 0)] {
+        assert_eq!(answer(a, b), FitAnswer::Kind, "{a} to {b}");
+    }
+    for (a, b) in [(4, 5), (5, 4), (0, 2), (1, 3), (3, 4)] {
+        assert_eq!(answer(a, b), FitAnswer::Member(1), "{a} to {b}");
+    }
     assert_eq!(verdict(&text), (9, 14));
 }
 

@@ -28,9 +28,11 @@ fn program(words: &[&str], text: &[u8]) -> (String, i32) {
 
 #[test]
 fn questions_and_answers() {
-    let cases: [(&[&str], &str); 8] = [
+    let cases: [(&[&str], &str); 10] = [
         (&["verdict"], "verdict=0\nline=0\n"),
-        (&["fit", "0", "1"], "fit=0\n"),
+        (&["fit", "0", "1"], "fit=0,3,1\n"),
+        (&["fit", "1", "2"], "fit=0,3,2\n"),
+        (&["fit", "1", "0"], "fit=0,2\n"),
         (&["fit", "2", "2"], "fit=1\n"),
         (&["fit", "3", "0"], "verdict=7\nline=0\n"),
         (&["run", "8"], "run=0,8,0,3\n"),
@@ -104,6 +106,36 @@ fn refusals_are_answers() {
     }
 }
 
+/// A misfit has a third line wherever a word asks, and only there.
+#[test]
+fn misfits_tell_what_is_lacking() {
+    let cases = [
+        (19, "new=2", "lack=1\n"),
+        (19, "new=2,1,1", "lack=1\n"),
+        (20, "call=2,2,1", "lack=2\n"),
+        (19, "new=2,0", "lack=3,1\n"),
+    ];
+    for (place, line, lack) in cases {
+        let text = with_line(CLERK, place, line);
+        let two = format!("verdict=10\nline={place}\n");
+        let three = format!("{two}{lack}");
+        let questions: [&[&str]; 4] = [
+            &["verdict"],
+            &["run", "8"],
+            &["authority", "8", "257"],
+            &["group", "8", "257"],
+        ];
+        for words in questions {
+            assert_eq!(program(words, &text), (three.clone(), 0), "{words:?}");
+        }
+        assert_eq!(program(&[], &text), (two, 0));
+    }
+    // Other refusals of typing have two.
+    let text = with_line(CLERK, 20, "call=2,3,0");
+    let refusal = "verdict=9\nline=20\n";
+    assert_eq!(program(&["verdict"], &text), (refusal.into(), 0));
+}
+
 #[test]
 fn wrong_command_lines() {
     let cases: [&[&str]; 18] = [
@@ -133,4 +165,5 @@ fn wrong_command_lines() {
     assert!(help.contains("run=OUTCOME,STEPS,VALUE,OBJECTS") && status == 0);
     assert!(help.contains("group BUDGET HOLDER.."));
     assert!(help.contains("second form F "));
+    assert!(help.contains("fit=0,3,N") && help.contains("lack=3,N"));
 }

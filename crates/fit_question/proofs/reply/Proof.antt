@@ -8,8 +8,7 @@ use Rattle.fit_question.proofs.reply.Tie as tie
 reply-in-requires : tie.Need-reply-in-requires
 reply-in-requires c κs =
     let r = c .before .before .before .before .before in let a = r .before .before .before .before in
-    let k = read-whole (a .pre) (r .read-sheet .ensures) (c .before .enum-told .given .1) in
-    (k .size, k .sheet)
+    read-whole (a .pre) (r .read-sheet .ensures) (c .before .enum-told .given .1)
 
 returns : tie.Need-returns
 unfolding fitReply

@@ -1,30 +1,31 @@
-use Rattle.sheet_rules.specs.declared.Reason.the-variants.{Misfit}
-use Rattle.code_typing.proofs.WalkLaws.{line-good, line-bad}
 use Prim.Native.Nat.{ℕ}
 use mathlib.Core.Path.{sym, ap, _∙_}
 use lib.ListN.{getD}
 use Rattle.sheet_rules.specs.Sheet.{formAt}
+use Rattle.type_rules.specs.Typing.{initFault}
 use Rattle.table.specs.View.{sheetIn}
-use Rattle.fit.specs.Told.{tells}
+use Rattle.fit_answer.specs.Told.{answers}
+use Rattle.instr_typing.specs.Told.{fitJudged}
+use Rattle.code_typing.proofs.LineLaws.{judged-on, judged-stop}
 use borrow.Author.Needs.{needs}
 use Rattle.form_typing.proofs.judge_init.Statement.{statement}
 use Rattle.form_typing.proofs.judge_init.Tie as tie
 
 returns : tie.Need-returns
 returns c =
-    let b = c .before .before .before .before .before in
-    let w = b .args .work .now in
-    line-good (b .args .line) Misfit (tells w (getD ((formAt (sheetIn w) (b .args .f)) .keeps) (b .args .kept) 0) (b .args .row))
-    (sym (c .before .fits2 .ensures ∙ ap (λ (a : ℕ). tells w a (b .args .row)) (c .before .before .keep .ensures ∙ ap (λ (k : ℕ). getD ((formAt (sheetIn w) (b .args .f)) .keeps) k 0) (c .before .before .before .wide .ensures))) ∙ c .if1 .taken)
+    let j = c .before .before in let k = j .before in let b = k .before .before .before in
+    let w = b .args .work .now in let f = formAt (sheetIn w) (b .args .f) in
+    judged-on (b .args .line) (initFault (answers w) f (b .args .row) (b .args .kept)) (b .args .row) _
+    (sym (j .judge-fit .ensures ∙ ap (λ (a : ℕ). fitJudged (answers w a (b .args .row)) (b .args .row)) (k .keep .ensures ∙ ap (λ (i : ℕ). getD (f .keeps) i 0) (k .before .wide .ensures))) ∙ c .enum-told .given .1)
 
 returns-2 : tie.Need-returns-2
 returns-2 c =
-    let b = c .before .before .before .before .before in
-    let w = b .args .work .now in
-    line-bad (b .args .line) Misfit (tells w (getD ((formAt (sheetIn w) (b .args .f)) .keeps) (b .args .kept) 0) (b .args .row))
-    (sym (c .before .fits2 .ensures ∙ ap (λ (a : ℕ). tells w a (b .args .row)) (c .before .before .keep .ensures ∙ ap (λ (k : ℕ). getD ((formAt (sheetIn w) (b .args .f)) .keeps) k 0) (c .before .before .before .wide .ensures))) ∙ c .if1 .left)
+    let j = c .before .before .before in let k = j .before in let b = k .before .before .before in
+    let w = b .args .work .now in let f = formAt (sheetIn w) (b .args .f) in
+    judged-stop (b .args .line) (initFault (answers w) f (b .args .row) (b .args .kept)) (b .args .row) _
+    (sym (j .judge-fit .ensures ∙ ap (λ (a : ℕ). fitJudged (answers w a (b .args .row)) (b .args .row)) (k .keep .ensures ∙ ap (λ (i : ℕ). getD (f .keeps) i 0) (k .before .wide .ensures))) ∙ c .before .reason .given .1)
 
 pub judge-init-spec : {M : Type 1} → statement M
 judge-init-spec =
     tie.close
-    (tie.spec (λ c κs. search needs) (λ c κs. search needs) (λ c κs. search needs) (λ c. search needs) returns returns-2)
+    (tie.spec (λ c κs. search needs) (λ c κs. search needs) (λ c κs. search needs) (λ c. search needs) (λ c. search needs) (λ c. search needs) returns returns-2)

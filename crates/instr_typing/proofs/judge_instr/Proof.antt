@@ -10,8 +10,8 @@ use Rattle.instr_typing.proofs.judge_instr.Tie as tie
 
 returns : tie.Need-returns
 returns c =
-    let f = c .before .before .before .before .before in let a = f .before .before in let b = a .before .before in
-    judged-new (b .args .work .now) (rowFound (b .args .own)) (b .args .filled) (b .args .p) (a .instr-at .result) (a .instr-at .ensures) _ (f .form .given .1) (c .before .before .before .wide .result) (c .before .before .before .wide .ensures) (c .before .before .slots-fit .result) (c .before .before .slots-fit .ensures) (c .before .form-row .result) (c .before .form-row .ensures) (c .fitting .result) (c .fitting .ensures)
+    let f = c .before .before .before in let a = f .before .before in let b = a .before .before in
+    judged-new (b .args .work .now) (rowFound (b .args .own)) (b .args .filled) (b .args .p) (a .instr-at .result) (a .instr-at .ensures) _ (f .form .given .1) (c .before .wide .result) (c .before .wide .ensures) (c .judge-new .result) (c .judge-new .ensures)
 
 returns-2 : tie.Need-returns-2
 returns-2 c =
@@ -35,6 +35,6 @@ returns-5 c =
 
 pub judge-instr-spec : {M : Type 1} → statement M
 judge-instr-spec = tie.close (tie.spec (λ c κs. search needs) (λ c. search needs) (λ c κs. search needs) (λ c κs. search needs)
-    (λ c κs. search needs) (λ c κs. search needs) (λ c. search needs) (λ c κs. search needs) (λ c. search needs)
+    (λ c. search needs) (λ c κs. search needs) (λ c. search needs)
     (λ c κs. search needs) (λ c. search needs) (λ c κs. search needs) (λ c κs. search needs) (λ c κs. search needs)
     (λ c. search needs) (λ c κs. search needs) (λ c κs. search needs) returns returns-2 returns-3 returns-4 returns-5)

@@ -1,4 +1,4 @@
-use Rattle.verdict_question.proofs.JudgeLaws.{text-refused, fill-comparable, filled-whole, text-judged}
+use Rattle.verdict_question.proofs.JudgeLaws.{text-refused, fill-comparable, judge-asks, text-judged}
 use borrow.Author.Needs.{needs}
 use Rattle.verdict_question.proofs.judge_text.Statement.{statement}
 use Rattle.verdict_question.proofs.judge_text.Tie as tie
@@ -18,7 +18,7 @@ judge-sheet-requires c κs =
     let rows = c .before .before .before .before .before in
     let told = rows .before .before in
     let b = told .before .before .before .before in
-    filled-whole (b .before .before .before .before .pre) (b .read-sheet .ensures) (told .enum-told .given .1) (rows .row-count .ensures) (c .before .before .before .fill .ensures)
+    judge-asks (b .before .before .before .before .pre) (b .read-sheet .ensures) (told .enum-told .given .1) (rows .row-count .ensures) (c .before .before .before .fill .ensures)
 
 returns-2 : tie.Need-returns-2
 returns-2 c =
