@@ -1,5 +1,5 @@
--- What the fit table says of two rows of the sheet, with the answer. Stands on the table's word and on the rule of fit; it asks
--- nothing of what the table holds.
+-- Fit's answer on two rows of the sheet in the buffer, where the fit table's word is taken. Stands on the table's word and on the rule
+-- of fit; it asks nothing of what the table holds.
 use Prim.Native.Nat.{ℕ}
 use mathlib.Core.Bool.{cond}
 use mathlib.Core.List.{List}
@@ -18,6 +18,6 @@ membersSay w a b = membersAnswer (tells w) (membersAt (sheetIn w) a) (membersAt 
 abbrev pub rowsSay : List ℕ → ℕ → ℕ → FitAnswer
 rowsSay w a b = rowAnswer (tells w) (rowAt ((sheetIn w) .rows) a) (rowAt ((sheetIn w) .rows) b)
 
--- yes by the table's own word, and else what the rows say
+-- what the table says of two rows: yes by its own word, and else what the rows say
 unfoldable pub answers : List ℕ → ℕ → ℕ → FitAnswer
 answers w a b = cond (tells w a b) Yes (rowsSay w a b)

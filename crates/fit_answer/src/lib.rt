@@ -1,8 +1,7 @@
-// What the fit table says of row a fitting row b: yes, or what is lacking. The table has the yes; what is lacking is found by one more
-// walk along the two rows, which only a misfit costs.
+// Fit's answer on two rows, by one walk along both, with the fit table's word on the rows that their members mention.
 ghost use mathlib.Core.Path.{_≡_};
 ghost use Rattle.table.specs.Whole.{Whole};
-ghost use Rattle.fit_answer.specs.Told.{membersSay, rowsSay, answers};
+ghost use Rattle.fit_answer.specs.Told.{membersSay, rowsSay};
 use sheet_rules::FitAnswer;
 use sheet_rules::Kind;
 
@@ -38,8 +37,8 @@ fn walk(work: &[u16], a: usize, b: usize) -> FitAnswer
     FitAnswer::Yes
 }
 
-// What the rows say: kinds first, then members.
-fn explain(work: &[u16], a: usize, b: usize) -> FitAnswer
+// What the two rows say: kinds first, then members.
+pub fn answer(work: &[u16], a: usize, b: usize) -> FitAnswer
     requires { ⌜ Whole (now work) ⌝ }
     ensures { λ r. ⌜ r ≡ rowsSay (now (work .entry)) a b ⌝ }
 {
@@ -50,15 +49,4 @@ fn explain(work: &[u16], a: usize, b: usize) -> FitAnswer
             Kind::Resource => walk(work, a, b),
         },
     }
-}
-
-// What the table says of row a fitting row b.
-pub fn answer_in(work: &[u16], a: usize, b: usize) -> FitAnswer
-    requires { ⌜ Whole (now work) ⌝ }
-    ensures { λ r. ⌜ r ≡ answers (now (work .entry)) a b ⌝ }
-{
-    if fit::fits_in(work, a, b) {
-        return FitAnswer::Yes;
-    }
-    explain(work, a, b)
 }

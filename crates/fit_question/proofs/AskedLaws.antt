@@ -18,8 +18,8 @@ use Rattle.table.specs.View.{cell, sheetIn}
 use Rattle.table.proofs.ViewLaws.{only-refl, only-widen}
 use Rattle.question.specs.Asked.{ToldAlone}
 use Rattle.fit.specs.Told.{FitFilled}
-use Rattle.fit_answer.specs.Told.{answers}
-use Rattle.fit_answer.proofs.SheetLaws.{sheet-answers}
+use Rattle.fit_answer.specs.Told.{rowsSay}
+use Rattle.fit_answer.proofs.SheetLaws.{sheet-rows}
 
 module _ (a b : ℕ) (w : List ℕ) {rows : ℕ} (counted : rows ≡ length ((sheetIn w) .rows)) where
   answer : Bool → Bool → FitReply
@@ -54,7 +54,7 @@ module _ (a b : ℕ) (w : List ℕ) {rows : ℕ} (counted : rows ≡ length ((sh
       }
 
   module _ (ha : a < rows) (hb : b < rows) (counted-here : rows ≡ cell w rowCountAt) {w′ : List ℕ} (filled : FitFilled rows w w′) where
-    pub fit-told : WellFormed (sheetIn w) → {x : FitAnswer} → x ≡ answers w′ a b → ToldAlone (fitIn (sheetIn w) a b) w w′ (FitReply.Answered x)
+    pub fit-told : WellFormed (sheetIn w) → {x : FitAnswer} → x ≡ rowsSay w′ a b → ToldAlone (fitIn (sheetIn w) a b) w w′ (FitReply.Answered x)
     unfolding answer
     fit-told well e =
         record {
@@ -63,7 +63,7 @@ module _ (a b : ℕ) (w : List ℕ) {rows : ℕ} (counted : rows ≡ length ((sh
               (answer-in
               ∙ ap (λ (x : Bool). answer x (ltb b (length ((sheetIn w) .rows)))) (lt-ltb a (length ((sheetIn w) .rows)) (omega arith))
               ∙ ap (answer true) (lt-ltb b (length ((sheetIn w) .rows)) (omega arith))
-              ∙ ap FitReply.Answered (sym (e ∙ sheet-answers w w′ (subst (λ (n : ℕ). FitFilled n w w′) counted-here filled) well a b (omega arith) (omega arith))));
+              ∙ ap FitReply.Answered (sym (e ∙ sheet-rows w w′ (subst (λ (n : ℕ). FitFilled n w w′) counted-here filled) well a b (omega arith) (omega arith))));
           written = refl;
           only = only-widen (omega arith) (omega arith) (filled .only);
         }

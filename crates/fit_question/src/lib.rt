@@ -31,7 +31,7 @@ fn reply_in(a: usize, b: usize, work: &mut [u16]) -> FitReply
     }
     fit::fill(work, rows);
     FitReply::Answered {
-        answer: fit_answer::answer_in(work, a, b),
+        answer: fit_answer::answer(work, a, b),
     }
 }
 

@@ -1,6 +1,6 @@
 -- One instruction, judged: a law for each kind. Assumes nothing.
 use Prim.Native.Nat.{ℕ}
-use mathlib.Core.Path.{_≡_, refl, sym, ap, _∙_}
+use mathlib.Core.Path.{_≡_, refl, sym, ap, ap₂, _∙_}
 use mathlib.Core.List.{List}
 use mathlib.Core.Option.{Option, none, some}
 use lib.ListN.{getD}
@@ -31,6 +31,10 @@ good-row (some q) row a e = clash (cc)
 pub refused-some : (f : Fault) (row : ℕ) (q : Reason) → judgedOf f row ≡ InstrJudged.Refused q → f ≡ some q
 refused-some none row q e = clash (cc)
 refused-some (some r) row q e = cc
+
+-- a value, by what the fit table says of its row and the wanted one; the code has both as numbers of its own
+pub judged-by : (w : List ℕ) (row : ℕ) {a b given wanted : ℕ} → a ≡ given → b ≡ wanted → {x : FitAnswer} → x ≡ answers w a b → fitJudged x row ≡ fitJudged (answers w given wanted) row
+judged-by w row ea eb e = ap (λ (y : FitAnswer). fitJudged y row) (e ∙ ap₂ (answers w) ea eb)
 
 -- by what a look-up found
 

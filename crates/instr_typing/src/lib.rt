@@ -115,23 +115,32 @@ fn own_field(work: &[u16], own: FoundRow, name: u16) -> FoundRow
     }
 }
 
-// A value of row `given` goes where row `wanted` is declared: the row of the slot that is filled then, or the misfit.
+// A value of row `given` goes where row `wanted` is declared: the row of the slot that is filled then, or the misfit. The fit table has
+// the yes; only a misfit costs a walk along the two rows.
 pub fn judge_fit(work: &[u16], given: u16, wanted: u16, row: u16) -> InstrJudged
     requires { ⌜ Whole (now work) ⌝ }
     ensures { λ r. ⌜ r ≡ fitJudged (answers (now (work .entry)) given wanted) row ⌝ }
 {
-    match fit_answer::answer_in(work, wide(given), wide(wanted)) {
+    let a = wide(given);
+    let b = wide(wanted);
+    if fit::fits_in(work, a, b) {
+        return InstrJudged::Good { row };
+    }
+    match fit_answer::answer(work, a, b) {
         FitAnswer::Yes => InstrJudged::Good { row },
         FitAnswer::WrongKind => InstrJudged::Refused {
             reason: Reason::Misfit {
                 lack: Lack::WrongKind,
             },
         },
-        FitAnswer::Unmet { name } => InstrJudged::Refused {
-            reason: Reason::Misfit {
-                lack: Lack::Unmet { name },
-            },
-        },
+        FitAnswer::Unmet { name } => {
+            let low = name as u8;
+            InstrJudged::Refused {
+                reason: Reason::Misfit {
+                    lack: Lack::Unmet { name: low },
+                },
+            }
+        }
     }
 }
 

@@ -50,11 +50,11 @@ pub enum Place {
 }
 
 // What is lacking where a value does not fit: one slot for each kept value; the kind, a resource where pure is asked; or a match for
-// a member, with its name.
+// a member, with its name. A name is at most 63, and a byte keeps every refusal small.
 pub enum Lack {
     Count,
     WrongKind,
-    Unmet { name: u16 },
+    Unmet { name: u8 },
 }
 
 // Why a call is refused, in the order of the paper's numbers 1 to 11. A misfit says what is lacking.

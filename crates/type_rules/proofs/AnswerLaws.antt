@@ -113,6 +113,10 @@ module _ (fit : ℕ → ℕ → Bool) (a b : Row) where
       same (no u) (yes v) = absurd (o (h z j (omega (arith, c))))
       same (no u) (no v) = omega arith
 
+  -- what it names is a member of row b
+  pub unmet-within : {n most : ℕ} → ((y : Member) → In y (b .members) → nameOf y ≤ most) → Says fit a b (Unmet n) → n ≤ most
+  unmet-within h (says-unmet {y = y} k i e m g) = let l = h y i in omega (arith, e)
+
 -- THE QUESTION
 
 -- of the rows of a sheet that was read, fit's answer is the one that says the truth

@@ -23,18 +23,18 @@ fill-requires c κs =
     let n = c .before .before .before in let a = n .before .before .before in
     subst (λ (m : ℕ). Comparable m (a .args .work .now)) (sym (n .row-count .ensures)) (sheet-comparable (a .args .work .now) (a .pre))
 
-answer-in-requires : tie.Need-answer-in-requires
-answer-in-requires c κs =
+answer-requires : tie.Need-answer-requires
+answer-requires c κs =
     let f = c .before .before .before in let n = f .before .before .before .before in let a = n .before .before .before in
     filled-whole (n .row-count .result) (a .args .work .now) _ (f .fill .ensures) (a .pre)
 
 returns-3 : tie.Need-returns-3
 returns-3 c =
     let f = c .before .before .before .before in let y = f .before .before in let n = y .before .before in let a = n .before .before .before in
-    fit-told (a .args .a) (a .args .b) (a .args .work .now) (n .row-count .ensures ∙ sym (rows-length (a .args .work .now))) (y .before .if1 .left) (y .if2 .left) (n .row-count .ensures) (f .fill .ensures) (a .pre .sheet) (c .answer-in .ensures)
+    fit-told (a .args .a) (a .args .b) (a .args .work .now) (n .row-count .ensures ∙ sym (rows-length (a .args .work .now))) (y .before .if1 .left) (y .if2 .left) (n .row-count .ensures) (f .fill .ensures) (a .pre .sheet) (c .answer .ensures)
 
 pub reply-in-spec : {M : Type 1} → statement M
 reply-in-spec =
     tie.close
     (tie.spec
-    (λ c κs. search needs) (λ c. search needs) returns (λ c. search needs) returns-2 fill-requires answer-in-requires (λ c. search needs) returns-3)
+    (λ c κs. search needs) (λ c. search needs) returns (λ c. search needs) returns-2 fill-requires answer-requires (λ c. search needs) returns-3)

@@ -1,8 +1,8 @@
 use mathlib.Core.Path.{refl, sym, _∙_}
 use Rattle.fit_answer.proofs.WalkLaws.{by-kinds}
 use borrow.Author.Needs.{needs}
-use Rattle.fit_answer.proofs.explain.Statement.{statement}
-use Rattle.fit_answer.proofs.explain.Tie as tie
+use Rattle.fit_answer.proofs.answer.Statement.{statement}
+use Rattle.fit_answer.proofs.answer.Tie as tie
 
 returns : tie.Need-returns
 returns c =
@@ -20,8 +20,8 @@ returns-3 c =
     c .walk2 .ensures
     ∙ by-kinds (s .args .work .now) (s .args .a) (s .args .b) (sym (l .before .enum-told2 .given .1) ∙ k .kind-at .ensures) (sym (c .before .enum-told4 .given .1) ∙ l .kind-at2 .ensures)
 
-pub explain-spec : {M : Type 1} → statement M
-explain-spec =
+pub answer-spec : {M : Type 1} → statement M
+answer-spec =
     tie.close
     (tie.spec
     (λ c κs. search needs) (λ c. search needs) (λ c κs. search needs) (λ c. search needs) (λ c κs. search needs) (λ c. search needs) (λ c. search needs)
