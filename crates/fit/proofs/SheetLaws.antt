@@ -1,5 +1,5 @@
 -- The fit table of a sheet that was read: what filling asks for holds, and what it gives is about the sheet. Assumes nothing.
-use Prim.Native.Nat.{ℕ, _≤_, _<_}
+use Prim.Native.Nat.{ℕ, _<_}
 use native.Mathlib.Omega.{arith}
 use mathlib.Core.Path.{_≡_, sym, subst}
 use mathlib.Core.List.{List}
@@ -8,7 +8,7 @@ use Rattle.lists.proofs.TabLaws.{length-tab, getD-tab}
 use Rattle.sheet_rules.specs.WellFormed.{WellFormedRow, WellFormed}
 use Rattle.sheet_rules.specs.Sheet.{noRow}
 use Rattle.type_rules.specs.Fit.{fits}
-use Rattle.table.specs.Layout.{rowCountAt, tableEnd, slotRowAddress, workSize}
+use Rattle.table.specs.Layout.{rowCountAt, tableEnd, slotRowAddress}
 use Rattle.table.specs.View.{cell, rowIn, rowsIn, sheetIn}
 use Rattle.table.specs.Whole.{Whole}
 use Rattle.table.proofs.ViewLaws.{only→same, sheetIn-same}

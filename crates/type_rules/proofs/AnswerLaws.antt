@@ -26,7 +26,7 @@ use Rattle.type_rules.specs.declared.FitReply.{FitReply}
 use Rattle.type_rules.specs.declared.FitReply.the-variants.{Answered, Refused}
 use Rattle.type_rules.specs.Fit.{kindFits, hasMatch, membersAnswer, rowAnswer, fitAnswer, fits}
 use Rattle.type_rules.specs.FitQuestion.{fitOn, fitReply}
-use Rattle.type_rules.specs.Says.{Met, Says, says-yes, says-kind, says-unmet}
+use Rattle.type_rules.specs.Says.{Says, says-yes, says-kind, says-unmet}
 use Rattle.type_rules.proofs.FitLaws.{members-at, fit-rule}
 
 -- THE MEMBERS

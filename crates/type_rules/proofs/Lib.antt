@@ -8,3 +8,4 @@ pub mod LookUpLaws
 pub mod TypedLaws
 pub mod AgreeLaws
 pub mod FaultLines
+pub mod MisfitLaws

@@ -13,7 +13,7 @@ use Rattle.lists.specs.In.{In, here, there}
 use Rattle.lists.specs.Pairwise.{Pairwise, pair}
 use Rattle.lists.proofs.InLaws.{in-nil, in-cases}
 use Rattle.lists.proofs.PairwiseLaws.{pairwise-length}
-use Rattle.lists.proofs.Tests.{and-intro, T→true}
+use Rattle.lists.proofs.Tests.{T→true}
 use Rattle.sheet_rules.specs.declared.FitAnswer.{FitAnswer}
 use Rattle.sheet_rules.specs.declared.FitAnswer.the-variants.{Yes, WrongKind, Unmet}
 use Rattle.sheet_rules.specs.declared.Lack.{Lack}

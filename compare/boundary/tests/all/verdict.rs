@@ -18,20 +18,35 @@ fn compare(text: &[u8], entry: &[u16], name: &str) -> VerdictResult {
     answer
 }
 
-#[test]
-fn the_verdict_agrees_on_20000_sheets() {
-    let (mut seen, mut lacks) = ([0_u32; 12], [0_u32; 4]);
-    for index in 0..20_000 {
-        let text = generator::sheet(41, index);
+/// Compares on sheets of one kind; how many answers there were by refusal, and
+/// by what is lacking.
+fn compare_all(sheet: fn(u64, u64) -> Vec<u8>, count: u64) -> ([u32; 12], [u32; 4]) {
+    let (mut seen, mut lacks) = ([0; 12], [0; 4]);
+    for index in 0..count {
+        let text = sheet(41, index);
         let entry = noise(index + 1, WORK + (index as usize % 3) * 7);
         let answer = compare(&text, &entry, &format!("sheet {index}"));
         seen[answer.refusal as usize] += 1;
         lacks[answer.lack as usize] += 1;
     }
+    (seen, lacks)
+}
+
+#[test]
+fn the_verdict_agrees_on_20000_sheets() {
+    let (seen, lacks) = compare_all(generator::sheet, 20_000);
     for number in [0, 2, 3, 4, 5, 6, 7, 8, 9, 10] {
         assert!(seen[number] > 0, "{number} was never the answer");
     }
     assert!(lacks.iter().all(|count| *count > 200), "{lacks:?}");
+}
+
+/// These are mostly ill typed, for whatever stands first.
+#[test]
+fn the_verdict_agrees_on_1000_readable_sheets() {
+    let (seen, lacks) = compare_all(generator::readable, 1_000);
+    assert!(seen[10] > 100, "{seen:?}");
+    assert!(lacks.iter().all(|count| *count > 10), "{lacks:?}");
 }
 
 /// Document 01's sheet P, with one line changed.

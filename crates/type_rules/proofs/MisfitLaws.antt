@@ -1,0 +1,120 @@
+-- A misfit says the truth of the line that it stands on: what it carries is lacking there. Assumes nothing.
+use Prim.Native.Nat.{ℕ, pred}
+use mathlib.Core.Path.{_≡_, refl, sym, ap, _∙_, subst}
+use mathlib.Core.Bool.{Bool, true, false, not, _&&_}
+use mathlib.Core.List.{List, [], _∷_}
+use mathlib.Core.Option.{Option, none, some}
+use mathlib.Core.Logic.{_⊎_, inl, inr}
+use lib.Dec.{eqb}
+use lib.ListN.{length, getD}
+use borrow.Author.Tests.{eqb-false}
+use Rattle.lists.proofs.Tests.{clash}
+use Rattle.sheet_rules.specs.declared.FitAnswer.{FitAnswer}
+use Rattle.sheet_rules.specs.declared.FitAnswer.the-variants.{Yes, WrongKind, Unmet}
+use Rattle.sheet_rules.specs.declared.Lack.{Lack}
+use Rattle.sheet_rules.specs.declared.Reason.{Reason}
+use Rattle.sheet_rules.specs.declared.Reason.the-variants.{ImpureForm, Misfit}
+use Rattle.sheet_rules.specs.declared.Verdict.the-variants.{Refused}
+use Rattle.sheet_rules.specs.Answers.{answerLack}
+use Rattle.sheet_rules.specs.Lines.{Line, torn, linesOf}
+use Rattle.sheet_rules.specs.Sheet.{Instr, new, call, get, put, copy, Sheet, rowAt, formAt}
+use Rattle.sheet_rules.specs.Reading.{readable, meaning}
+use Rattle.sheet_rules.specs.Print.{instrWritten}
+use Rattle.sheet_rules.specs.WellFormed.{WellFormed}
+use Rattle.sheet_rules.proofs.ReadingLaws.{readable-wellFormed}
+use Rattle.type_rules.specs.Fit.{fitAnswer}
+use Rattle.type_rules.specs.Says.{Lacking, lacks-slots, lacks-fit}
+use Rattle.type_rules.specs.Typing.{Signature, Own, methodIn, membersAt, ownField, slotRows, lastRow, Fault, unless, firstOf, fitFault, slotsFault, newFault, callFault, getFault, putFault, instrFault, resultFault, isPure, hasField, typedInstr, typedLines, typing, verdictOn, verdict}
+use Rattle.type_rules.proofs.AnswerLaws.{answer-exactly}
+use Rattle.type_rules.proofs.FaultLines.{FaultOf, of-form, of-keep, of-init, of-body, of-instr, of-main, of-main-instr, refused-line}
+
+-- the first of two faults is one of them
+one-of : (f g : Fault) {r : Reason} → firstOf f g ≡ some r → (f ≡ some r) ⊎ (g ≡ some r)
+one-of none g e = inr e
+one-of (some q) g e = inl e
+
+-- a misfit carries what fit's answer lacks
+carried : (x : FitAnswer) {l : Lack} → fitFault x ≡ some (Misfit l) → answerLack x ≡ some l
+carried Yes e = clash (cc)
+carried WrongKind e = cc
+carried (Unmet n) e = cc
+
+impure : (b : Bool) {l : Lack} {A : Type 0} → unless b ImpureForm ≡ some (Misfit l) → A
+impure true e = clash (cc)
+impure false e = clash (cc)
+
+module _ {s : Sheet} (w : WellFormed s) where
+  abbrev fit : ℕ → ℕ → FitAnswer
+  fit = fitAnswer (s .rows)
+
+  value-lacks : {on : Line} {l : Lack} (a b : ℕ) → fitFault (fit a b) ≡ some (Misfit l) → Lacking s on l
+  value-lacks a b e = lacks-fit a b (answer-exactly s w a b (fit a b) .0 refl) (carried (fit a b) e)
+
+  slots-lack : {on : Line} {l : Lack} (rows vs bs : List ℕ) → slotsFault fit rows vs bs ≡ some (Misfit l) → Lacking s on l
+  unfolding slotsFault
+  slots-lack rows [] bs e = clash (cc)
+  slots-lack rows (v ∷ vs) [] e = clash (cc)
+  slots-lack {on} {l} rows (v ∷ vs) (b ∷ bs) e = go (slots-lack rows vs bs) (one-of (fitFault (fit (getD rows v 0) b)) (slotsFault fit rows vs bs) e)
+    where
+      go : (slotsFault fit rows vs bs ≡ some (Misfit l) → Lacking s on l) → (fitFault (fit (getD rows v 0) b) ≡ some (Misfit l)) ⊎ (slotsFault fit rows vs bs ≡ some (Misfit l)) → Lacking s on l
+      go later (inl q) = value-lacks (getD rows v 0) b q
+      go later (inr q) = later q
+
+  new-lacks : {l : Lack} (rows : List ℕ) (f : ℕ) (vs : List ℕ) → newFault fit rows vs ((formAt s f) .keeps) ≡ some (Misfit l) → Lacking s (instrWritten (new f vs)) l
+  new-lacks {l} rows f vs e = go (eqb (length vs) (length ((formAt s f) .keeps))) refl e
+    where
+      go : (t : Bool) → eqb (length vs) (length ((formAt s f) .keeps)) ≡ t
+          → firstOf (unless t (Misfit Lack.Count)) (slotsFault fit rows vs ((formAt s f) .keeps)) ≡ some (Misfit l) → Lacking s (instrWritten (new f vs)) l
+      go true p q = slots-lack rows vs ((formAt s f) .keeps) q
+      go false p q =
+          let same : Lack.Count ≡ l = cc in
+          subst (Lacking s (instrWritten (new f vs))) same (lacks-slots f vs (eqb-false (length vs) (length ((formAt s f) .keeps)) p))
+
+  call-lacks : {on : Line} {l : Lack} (m : Option Signature) (a : ℕ) → callFault fit m a ≡ some (Misfit l) → Lacking s on l
+  call-lacks none a e = clash (cc)
+  call-lacks (some m) a e = value-lacks a (m .argument) e
+
+  get-lacks : {on : Line} {l : Lack} (r : Option ℕ) → getFault r ≡ some (Misfit l) → Lacking s on l
+  get-lacks none e = clash (cc)
+  get-lacks (some r) e = clash (cc)
+
+  put-lacks : {on : Line} {l : Lack} (r : Option ℕ) (a : ℕ) → putFault fit r a ≡ some (Misfit l) → Lacking s on l
+  put-lacks none a e = clash (cc)
+  put-lacks (some r) a e = value-lacks a r e
+
+  result-lacks : {on : Line} {l : Lack} (result : Option ℕ) (a : ℕ) (is : List Instr) → resultFault fit result a is ≡ some (Misfit l) → Lacking s on l
+  result-lacks none a is e = clash (cc)
+  result-lacks (some r) a [] e = value-lacks a r e
+  result-lacks (some r) a (i ∷ is) e = clash (cc)
+
+  instr-lacks : {l : Lack} (own : Own) (rows : List ℕ) (i : Instr) → instrFault fit s own rows i ≡ some (Misfit l) → Lacking s (instrWritten i) l
+  instr-lacks own rows (new f vs) e = new-lacks rows f vs e
+  instr-lacks own rows (call o n a) e = call-lacks (methodIn (membersAt s (getD rows o 0)) n) (getD rows a 0) e
+  instr-lacks own rows (get n) e = get-lacks (ownField s own n) e
+  instr-lacks own rows (put n v) e = put-lacks (ownField s own n) (getD rows v 0) e
+  instr-lacks own rows (copy v) e = clash (cc)
+
+  typed-lacks : {l : Lack} (own : Own) (result : Option ℕ) (rows : List ℕ) (i : Instr) (is : List Instr) → typedInstr fit s own result rows i is ≡ some (Misfit l)
+      → Lacking s (instrWritten i) l
+  typed-lacks {l} own result rows i is e = go (one-of (instrFault fit s own rows i) (resultFault fit result value is) e)
+    where
+      value : ℕ
+      value = lastRow (slotRows s own rows (i ∷ is))
+
+      go : (instrFault fit s own rows i ≡ some (Misfit l)) ⊎ (resultFault fit result value is ≡ some (Misfit l)) → Lacking s (instrWritten i) l
+      go (inl q) = instr-lacks own rows i q
+      go (inr q) = result-lacks result value is q
+
+  line-lacks : {f : Fault} {on : Line} {l : Lack} → FaultOf (typedLines fit s) s f on → f ≡ some (Misfit l) → Lacking s on l
+  line-lacks (of-form {f = f} h) e = let a = rowAt (s .rows) (f .row) in impure (not (isPure (a .kind) && hasField (a .members))) e
+  line-lacks (of-keep {k = k} {f = f} h i) e = let a = rowAt (s .rows) (f .row) in impure (not (isPure (a .kind) && not (isPure ((rowAt (s .rows) k) .kind)))) e
+  line-lacks (of-init {r = r} {k = k} {f = f} h i) e = value-lacks (getD (f .keeps) k 0) r e
+  line-lacks (of-body is) e = clash (cc)
+  line-lacks (of-instr {r = r} {f = f} h i rows x is) e = typed-lacks (some (f .row)) (some r) rows x is e
+  line-lacks of-main e = clash (cc)
+  line-lacks (of-main-instr rows x is) e = typed-lacks none none rows x is e
+
+-- of a text that is refused for a misfit, what the verdict carries is lacking on the line that it names
+pub misfit-lacks : (text : List ℕ) {s : Sheet} → meaning text ≡ readable s → {l : Lack} {n : ℕ} → verdict text ≡ Refused (Misfit l) n → Lacking s (getD (linesOf text) (pred n) torn) l
+unfolding verdict
+misfit-lacks text {s} m e = line-lacks (readable-wellFormed text s m) (refused-line text m (sym (ap (verdictOn typing) m) ∙ e)) refl
