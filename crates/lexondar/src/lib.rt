@@ -24,7 +24,7 @@ use results::ReportResult;
 use results::RunResult;
 use results::VerdictResult;
 
-// Whether row a of a text's sheet fits row b.
+// Whether row a of a text's sheet fits row b, and what is lacking if not.
 #[no_mangle]
 pub extern "C" fn lexondar_fit(text: &[u8], a: usize, b: usize, work: &mut [u16]) -> FitResult
     ensures { λ r. ⌜ AskedAlone (fitResult (fitReply (now (text .entry)) a b)) (fitResult (FitAnswered.Refused BufferTooShort 0)) (now (work .entry)) (now (work .exit)) r ⌝ }

@@ -204,6 +204,8 @@ cases =
     ∷ gives (with 34 "put=1,0") 9 34
     -- a misfit at `init`, in `put`, of an argument, of a kept value, and too few or too many slots
     ∷ misfits (with 13 "keep=1") 14 2 0
+    ∷ misfits ("types=3" ∷ "type=0,0" ∷ "type=1,1" ∷ "def=5,0,0" ∷ "type=1,1" ∷ "var=1,1" ∷ "forms=1" ∷ "form=2,1" ∷ "keep=0" ∷ "init=0" ∷ "main=1" ∷ "new=0" ∷ []) 10 3 5
+    ∷ misfits (withLine 19 "new=2,0" P) 19 3 1
     ∷ misfits (with 16 "put=1,0") 16 2 0
     ∷ misfits (with 22 "call=1,2,0") 22 2 0
     ∷ misfits (with 32 "new=2,0") 32 3 1

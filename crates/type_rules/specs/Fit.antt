@@ -1,4 +1,5 @@
--- When a row fits another (document 01, Fit and typing; document 003, appendix A). Stands on the rows of a sheet.
+-- When a row fits another, and what is lacking if not (document 01, Fit and typing; document 003, appendix A; document 02, order 3).
+-- Stands on the rows of a sheet.
 use Prim.Native.Nat.{ℕ, zero, suc, _*_}
 use mathlib.Core.Bool.{Bool, true, false, cond, _&&_, _||_}
 use mathlib.Core.List.{List, [], _∷_}
@@ -34,12 +35,12 @@ hasMatch fit [] y = false
 hasMatch fit (x ∷ xs) y = matches fit x y || hasMatch fit xs y
 
 -- each member of row b has its match in row a; if not, the first that lacks it is named (names ascend, so it is the lowest)
--- (Fit and typing)
+-- (Fit and typing; document 02, order 3)
 unfoldable pub membersAnswer : (ℕ → ℕ → Bool) → List Member → List Member → FitAnswer
 membersAnswer fit xs [] = Yes
 membersAnswer fit xs (y ∷ ys) = cond (hasMatch fit xs y) (membersAnswer fit xs ys) (Unmet (nameOf y))
 
--- whether row a fits row b, given which rows fit: kinds first, then members (Fit and typing)
+-- whether row a fits row b, given which rows fit: kinds first, then members (Fit and typing; document 02, order 3)
 abbrev pub rowAnswer : (ℕ → ℕ → Bool) → Row → Row → FitAnswer
 rowAnswer fit a b = cond (kindFits (a .kind) (b .kind)) (membersAnswer fit (a .members) (b .members)) WrongKind
 
