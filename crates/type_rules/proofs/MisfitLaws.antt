@@ -1,5 +1,7 @@
--- A misfit says the truth of the line that it stands on: what it carries is lacking there. Assumes nothing.
-use Prim.Native.Nat.{ℕ, pred}
+-- What a misfit carries: of a `new` count, or the answer of the first slot that misfits; and always what is lacking in the sheet. Assumes
+-- nothing.
+use Prim.Native.Nat.{ℕ, zero, suc, pred, _<_}
+use native.Mathlib.Omega.{arith}
 use mathlib.Core.Path.{_≡_, refl, sym, ap, _∙_, subst}
 use mathlib.Core.Bool.{Bool, true, false, not, _&&_}
 use mathlib.Core.List.{List, [], _∷_}
@@ -7,7 +9,7 @@ use mathlib.Core.Option.{Option, none, some}
 use mathlib.Core.Logic.{_⊎_, inl, inr}
 use lib.Dec.{eqb}
 use lib.ListN.{length, getD}
-use borrow.Author.Tests.{eqb-false}
+use borrow.Author.Tests.{eqb-true, eqb-false}
 use Rattle.lists.proofs.Tests.{clash}
 use Rattle.sheet_rules.specs.declared.FitAnswer.{FitAnswer}
 use Rattle.sheet_rules.specs.declared.FitAnswer.the-variants.{Yes, WrongKind, Unmet}
@@ -43,6 +45,40 @@ impure : (b : Bool) {l : Lack} {A : Type 0} → unless b ImpureForm ≡ some (Mi
 impure true e = clash (cc)
 impure false e = clash (cc)
 
+-- of the slots of a `new` the first that misfits is the fault: what is carried is its answer, and each slot before it fits
+pub record FirstAt (fit : ℕ → ℕ → FitAnswer) (rows vs bs : List ℕ) (r : Reason) : Type 0 where
+  pub place : ℕ
+  pub within : place < length vs
+  pub fault : fitFault (fit (getD rows (getD vs place 0) 0) (getD bs place 0)) ≡ some r
+  pub before : (j : ℕ) → j < place → fitFault (fit (getD rows (getD vs j 0) 0) (getD bs j 0)) ≡ none
+
+pub slots-first : (fit : ℕ → ℕ → FitAnswer) (rows vs bs : List ℕ) {r : Reason} → slotsFault fit rows vs bs ≡ some r → FirstAt fit rows vs bs r
+unfolding slotsFault
+slots-first fit rows [] bs e = clash (cc)
+slots-first fit rows (v ∷ vs) [] e = clash (cc)
+slots-first fit rows (v ∷ vs) (b ∷ bs) {r} e = go (slots-first fit rows vs bs) (fitFault (fit (getD rows v 0) b)) refl e
+  where
+    go : (slotsFault fit rows vs bs ≡ some r → FirstAt fit rows vs bs r) → (f : Fault) → fitFault (fit (getD rows v 0) b) ≡ f
+        → firstOf f (slotsFault fit rows vs bs) ≡ some r → FirstAt fit rows (v ∷ vs) (b ∷ bs) r
+    go later none p q =
+        let l = later q in
+        record { place = suc (l .place); within = omega (arith, l .within); fault = l .fault; before = below }
+      where
+        below : (j : ℕ) → j < suc (later q .place) → fitFault (fit (getD rows (getD (v ∷ vs) j 0) 0) (getD (b ∷ bs) j 0)) ≡ none
+        below zero k = p
+        below (suc j) k = later q .before j (omega arith)
+    go later (some x) p q = record { place = 0; within = omega arith; fault = p ∙ q; before = λ j k. absurd (omega arith) }
+
+-- and count comes before them
+pub new-first : (fit : ℕ → ℕ → FitAnswer) (rows vs bs : List ℕ) {l : Lack} → newFault fit rows vs bs ≡ some (Misfit l)
+    → ((length vs ≡ length bs → ⊥) × (Lack.Count ≡ l)) ⊎ ((length vs ≡ length bs) × FirstAt fit rows vs bs (Misfit l))
+new-first fit rows vs bs {l} e = go (eqb (length vs) (length bs)) refl e
+  where
+    go : (t : Bool) → eqb (length vs) (length bs) ≡ t → firstOf (unless t (Misfit Lack.Count)) (slotsFault fit rows vs bs) ≡ some (Misfit l)
+        → ((length vs ≡ length bs → ⊥) × (Lack.Count ≡ l)) ⊎ ((length vs ≡ length bs) × FirstAt fit rows vs bs (Misfit l))
+    go true p q = inr (eqb-true (length vs) (length bs) p, slots-first fit rows vs bs q)
+    go false p q = let same : Lack.Count ≡ l = cc in inl (eqb-false (length vs) (length bs) p, same)
+
 module _ {s : Sheet} (w : WellFormed s) where
   abbrev fit : ℕ → ℕ → FitAnswer
   fit = fitAnswer (s .rows)
@@ -50,25 +86,15 @@ module _ {s : Sheet} (w : WellFormed s) where
   value-lacks : {on : Line} {l : Lack} (a b : ℕ) → fitFault (fit a b) ≡ some (Misfit l) → Lacking s on l
   value-lacks a b e = lacks-fit a b (answer-exactly s w a b (fit a b) .0 refl) (carried (fit a b) e)
 
-  slots-lack : {on : Line} {l : Lack} (rows vs bs : List ℕ) → slotsFault fit rows vs bs ≡ some (Misfit l) → Lacking s on l
-  unfolding slotsFault
-  slots-lack rows [] bs e = clash (cc)
-  slots-lack rows (v ∷ vs) [] e = clash (cc)
-  slots-lack {on} {l} rows (v ∷ vs) (b ∷ bs) e = go (slots-lack rows vs bs) (one-of (fitFault (fit (getD rows v 0) b)) (slotsFault fit rows vs bs) e)
-    where
-      go : (slotsFault fit rows vs bs ≡ some (Misfit l) → Lacking s on l) → (fitFault (fit (getD rows v 0) b) ≡ some (Misfit l)) ⊎ (slotsFault fit rows vs bs ≡ some (Misfit l)) → Lacking s on l
-      go later (inl q) = value-lacks (getD rows v 0) b q
-      go later (inr q) = later q
-
   new-lacks : {l : Lack} (rows : List ℕ) (f : ℕ) (vs : List ℕ) → newFault fit rows vs ((formAt s f) .keeps) ≡ some (Misfit l) → Lacking s (instrWritten (new f vs)) l
-  new-lacks {l} rows f vs e = go (eqb (length vs) (length ((formAt s f) .keeps))) refl e
+  new-lacks {l} rows f vs e = go (new-first fit rows vs ((formAt s f) .keeps) e)
     where
-      go : (t : Bool) → eqb (length vs) (length ((formAt s f) .keeps)) ≡ t
-          → firstOf (unless t (Misfit Lack.Count)) (slotsFault fit rows vs ((formAt s f) .keeps)) ≡ some (Misfit l) → Lacking s (instrWritten (new f vs)) l
-      go true p q = slots-lack rows vs ((formAt s f) .keeps) q
-      go false p q =
-          let same : Lack.Count ≡ l = cc in
-          subst (Lacking s (instrWritten (new f vs))) same (lacks-slots f vs (eqb-false (length vs) (length ((formAt s f) .keeps)) p))
+      keeps : List ℕ
+      keeps = (formAt s f) .keeps
+
+      go : ((length vs ≡ length keeps → ⊥) × (Lack.Count ≡ l)) ⊎ ((length vs ≡ length keeps) × FirstAt fit rows vs keeps (Misfit l)) → Lacking s (instrWritten (new f vs)) l
+      go (inl p) = subst (Lacking s (instrWritten (new f vs))) (p .1) (lacks-slots f vs (p .0))
+      go (inr p) = value-lacks (getD rows (getD vs (p .1 .place) 0) 0) (getD keeps (p .1 .place) 0) (p .1 .fault)
 
   call-lacks : {on : Line} {l : Lack} (m : Option Signature) (a : ℕ) → callFault fit m a ≡ some (Misfit l) → Lacking s on l
   call-lacks none a e = clash (cc)

@@ -1,6 +1,6 @@
--- What each answer of fit says of two rows, and what a misfit says of the line that it stands on (document 02, order 3). AnswerLaws
--- proves that fit's answer is the one that says the truth, and that there is no other; MisfitLaws that every misfit does. Stands on Fit
--- and on the sheet's lines.
+-- What each answer of fit says of two rows, and what a misfit says of the sheet (document 02, order 3). AnswerLaws proves that fit's
+-- answer is the one that says the truth, and that there is no other; MisfitLaws that every misfit says it. Stands on Fit and on the
+-- sheet's lines.
 use Prim.Native.Nat.{ℕ, _<_}
 use mathlib.Core.Path.{_≡_}
 use mathlib.Core.Bool.{Bool}
@@ -32,8 +32,8 @@ pub data Says (fit : ℕ → ℕ → Bool) (a b : Row) : FitAnswer → Type 0 wh
   says-unmet : {y : Member} {n : ℕ} → T (kindFits (a .kind) (b .kind)) → In y (b .members) → nameOf y ≡ n → (Met fit a y → ⊥)
       → ((z : Member) → In z (b .members) → nameOf z < n → Met fit a z) → Says fit a b (Unmet n)
 
--- on a line of a sheet something is lacking: count, and it is a `new` that has not one slot for each kept value; or what fit's answer
--- lacks on some value's row and the row where it goes (document 02, order 3)
+-- something is lacking in a sheet, and a line is refused for it: count, and the line is a `new` that has not one slot for each kept
+-- value; or kind or a member, and it is what fit's answer on two rows lacks (document 02, order 3)
 pub data Lacking (s : Sheet) : Line → Lack → Type 0 where
   lacks-slots : (f : ℕ) (vs : List ℕ) → (length vs ≡ length ((formAt s f) .keeps) → ⊥) → Lacking s (instrWritten (new f vs)) Lack.Count
   lacks-fit : {on : Line} {l : Lack} (a b : ℕ) {x : FitAnswer} → Says (fits (s .rows)) (rowAt (s .rows) a) (rowAt (s .rows) b) x → answerLack x ≡ some l → Lacking s on l

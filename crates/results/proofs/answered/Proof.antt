@@ -5,4 +5,8 @@ use Rattle.results.proofs.answered.Statement.{statement}
 use Rattle.results.proofs.answered.Tie as tie
 
 pub answered-spec : {M : Type 1} → statement M
-answered-spec = tie.close (tie.spec (λ c. search needs) (λ c. search needs) (λ c. search needs) (λ c. search needs) (λ c. cc (ap answerResult (c .enum-told .given .1))) (λ c. cc (ap answerResult (c .enum-told2 .given .1))) (λ c. cc (ap answerResult (c .before .answer .given .1))))
+answered-spec =
+    tie.close
+    (tie.spec
+    (λ c. search needs) (λ c. search needs) (λ c. search needs) (λ c. search needs) (λ c. cc (ap answerResult (c .enum-told .given .1)))
+    (λ c. cc (ap answerResult (c .enum-told2 .given .1))) (λ c. cc (ap answerResult (c .before .answer .given .1))))

@@ -5,4 +5,9 @@ use Rattle.results.proofs.fit_result.Statement.{statement}
 use Rattle.results.proofs.fit_result.Tie as tie
 
 pub fit-result-spec : {M : Type 1} → statement M
-fit-result-spec = tie.close (tie.spec (λ c. search needs) (λ c κs. search needs) (λ c. search needs) (λ c κs. search needs) (λ c κs. search needs) (λ c κs. search needs) (λ c. cc (ap fitResult (c .before .before .reply .given .1))) (λ c. cc (ap fitResult (c .before .before .before .before .reply2 .given .1))))
+fit-result-spec =
+    tie.close
+    (tie.spec
+    (λ c. search needs) (λ c κs. search needs) (λ c. search needs) (λ c κs. search needs) (λ c κs. search needs) (λ c κs. search needs)
+    (λ c. cc (ap fitResult (c .before .before .reply .given .1)))
+    (λ c. cc (ap fitResult (c .before .before .before .before .reply2 .given .1))))

@@ -8,4 +8,10 @@ use Rattle.results.proofs.numbers.name_of.Tie as tie
 
 pub name-of-spec : {M : Type 1} → statement M
 name-of-spec =
-    tie.close (tie.spec (λ c. search needs) (λ c. ap lackName (no-misfit (c .before .args .reason) (0 ∷ 1 ∷ 2 ∷ 3 ∷ 4 ∷ 5 ∷ 6 ∷ 7 ∷ 8 ∷ 10 ∷ []) tt (c .match .keys2))) (λ c. search needs) (λ c. no-name (c .before .before .reason .given .0 .0) (0 ∷ 1 ∷ []) tt (c .match2 .keys2) ∙ sym (ap (λ r. lackName (reasonLack r)) (c .before .before .reason .given .1))) (λ c. search needs) (λ c. search needs))
+    tie.close
+    (tie.spec
+    (λ c. search needs)
+    (λ c. ap lackName (no-misfit (c .before .args .reason) (0 ∷ 1 ∷ 2 ∷ 3 ∷ 4 ∷ 5 ∷ 6 ∷ 7 ∷ 8 ∷ 10 ∷ []) tt (c .match .keys2)))
+    (λ c. search needs)
+    (λ c. no-name (c .before .before .reason .given .0 .0) (0 ∷ 1 ∷ []) tt (c .match2 .keys2) ∙ sym (ap (λ r. lackName (reasonLack r)) (c .before .before .reason .given .1)))
+    (λ c. search needs) (λ c. search needs))
