@@ -1,10 +1,12 @@
 //! A plain reading of the sheet rules: reader, fit, a form's lines, verdict,
-//! bounded run, authority of a holder or a group, and printed answer. Every
-//! question takes the sheet's text.
+//! bounded run, authority of a holder or a group, the most steps of a sheet
+//! that is sure to finish, and printed answer. Every question takes the
+//! sheet's text.
 
 #![forbid(unsafe_code)]
 
 pub mod authority;
+mod bound;
 mod code;
 pub mod fit;
 mod line;
@@ -76,6 +78,13 @@ pub fn group(text: &[u8], budget: u32, holders: &[u32]) -> Result<Vec<u16>, Refu
     let mut machine = machine::Machine::start(&sheet);
     machine.run(budget);
     authority::group_of(&machine, holders).ok_or(Refusal::at(Reason::NoHolder, 0))
+}
+
+/// The most steps that an accepted sheet can need, if its bodies call lower
+/// names only.
+pub fn bound(text: &[u8]) -> Result<u32, Refusal> {
+    let sheet = accepted(text)?;
+    bound::bound(&sheet)
 }
 
 /// The table of a sheet that passes the refusals 2 to 10.

@@ -15,6 +15,9 @@ usage: second                          judge, run 10,000 steps, print all
        second run BUDGET               run=OUTCOME,STEPS,VALUE,OBJECTS
        second authority BUDGET HOLDER  holder=HOLDER,OBJECT,.. ascending
        second group BUDGET HOLDER..    group=OBJECT,.. ascending
+       second bound                    bound=STEPS, the most steps that a sheet
+                                       can need whose bodies call lower names
+                                       only
        second --help                   this text
 
 The sheet is read from standard input. A, B, F, BUDGET and HOLDER are decimals
@@ -36,6 +39,7 @@ enum Question {
     Run(u32),
     Authority(u32, u32),
     Group(u32, Vec<u32>),
+    Bound,
     Help,
 }
 
@@ -71,6 +75,7 @@ fn question(words: &[&str]) -> Option<Question> {
         ["run", budget] => Question::Run(number(budget)?),
         ["authority", budget, holder] => Question::Authority(number(budget)?, number(holder)?),
         ["group", budget, holders @ ..] => Question::Group(number(budget)?, numbers(holders)?),
+        ["bound"] => Question::Bound,
         ["--help"] => Question::Help,
         _ => return None,
     })
@@ -104,6 +109,7 @@ fn answer(question: Question) -> io::Result<()> {
         Question::Group(budget, holders) => {
             second::group(&text, budget, &holders).map(|held| second::group_line(&held))
         }
+        Question::Bound => second::bound(&text).map(|steps| format!("bound={steps}\n")),
         Question::Help => Ok(String::from(USAGE)),
     };
     let lines = answer.unwrap_or_else(second::question_lines);

@@ -46,10 +46,14 @@ pub enum Reason {
     NoSuchPart,
     Misfit(Lack),
     NoHolder,
+    /// A body calls its own method's name or a higher one.
+    CircularCall,
+    /// Main's amount has no place in 32 bits.
+    BeyondCount,
 }
 
 impl Reason {
-    /// The reason's number in the rules, 2 to 11.
+    /// The reason's number in the rules, 2 to 13.
     pub fn number(self) -> u32 {
         match self {
             Reason::LongSheet => 2,
@@ -62,6 +66,8 @@ impl Reason {
             Reason::NoSuchPart => 9,
             Reason::Misfit(_) => 10,
             Reason::NoHolder => 11,
+            Reason::CircularCall => 12,
+            Reason::BeyondCount => 13,
         }
     }
 }
@@ -78,7 +84,7 @@ impl Refusal {
         Refusal { reason, line }
     }
 
-    /// The refusal's number in the rules, 2 to 11.
+    /// The refusal's number in the rules, 2 to 13.
     pub fn number(self) -> u32 {
         self.reason.number()
     }

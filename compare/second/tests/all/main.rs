@@ -2,6 +2,7 @@
 
 mod authority;
 mod bad_input;
+mod bound;
 mod common;
 mod fit;
 mod form;

@@ -88,9 +88,22 @@ fn the_lines_of_a_form() {
 }
 
 #[test]
+fn the_most_steps() {
+    assert_eq!(program(&["bound"], CLERK), ("bound=8\n".into(), 0));
+    let circular = "verdict=12\nline=9\n";
+    assert_eq!(program(&["bound"], LOOP), (circular.into(), 0));
+    let beyond = "verdict=13\nline=0\n";
+    let text = crate::bound::steps(15);
+    assert_eq!(program(&["bound"], &text), (beyond.into(), 0));
+    let most = "bound=4294967295\n";
+    let text = crate::bound::steps(14);
+    assert_eq!(program(&["bound"], &text), (most.into(), 0));
+}
+
+#[test]
 fn refusals_are_answers() {
     let long = vec![b'7'; 70_000];
-    let questions: [&[&str]; 8] = [
+    let questions: [&[&str]; 9] = [
         &[],
         &["verdict"],
         &["run", "1"],
@@ -99,6 +112,7 @@ fn refusals_are_answers() {
         &["form", "4294967295"],
         &["group", "1"],
         &["group", "1", "257"],
+        &["bound"],
     ];
     for words in questions {
         assert_eq!(program(words, b""), ("verdict=3\nline=1\n".into(), 0));
@@ -119,11 +133,12 @@ fn misfits_tell_what_is_lacking() {
         let text = with_line(CLERK, place, line);
         let two = format!("verdict=10\nline={place}\n");
         let three = format!("{two}{lack}");
-        let questions: [&[&str]; 4] = [
+        let questions: [&[&str]; 5] = [
             &["verdict"],
             &["run", "8"],
             &["authority", "8", "257"],
             &["group", "8", "257"],
+            &["bound"],
         ];
         for words in questions {
             assert_eq!(program(words, &text), (three.clone(), 0), "{words:?}");
@@ -138,7 +153,7 @@ fn misfits_tell_what_is_lacking() {
 
 #[test]
 fn wrong_command_lines() {
-    let cases: [&[&str]; 18] = [
+    let cases: [&[&str]; 20] = [
         &["fits", "0", "1"],
         &["fit", "0"],
         &["verdict", "0"],
@@ -157,6 +172,8 @@ fn wrong_command_lines() {
         &["form", "-1"],
         &["form", "4294967296"],
         &["forms", "0"],
+        &["bound", "8"],
+        &["bounds"],
     ];
     for words in cases {
         assert_eq!(program(words, CLERK), (String::new(), 2), "{words:?}");
@@ -165,5 +182,6 @@ fn wrong_command_lines() {
     assert!(help.contains("run=OUTCOME,STEPS,VALUE,OBJECTS") && status == 0);
     assert!(help.contains("group BUDGET HOLDER.."));
     assert!(help.contains("second form F "));
+    assert!(help.contains("bound=STEPS"));
     assert!(help.contains("fit=0,3,N") && help.contains("lack=3,N"));
 }
