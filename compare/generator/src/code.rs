@@ -13,6 +13,8 @@ pub struct Writer<'a> {
     pub plan: &'a Plan,
     pub rng: &'a mut Rng,
     pub own: Option<usize>,
+    /// Names of calls are below this, if there is such a limit.
+    pub below: Option<u16>,
     /// The rows of the filled slots.
     pub slots: Vec<u16>,
 }
@@ -161,8 +163,10 @@ impl Writer<'_> {
     fn call(&mut self) -> Option<Filled> {
         let slot = self.receiver()?;
         let members = &self.plan.rows[usize::from(self.slots[slot])].members;
+        let allowed = |name: u16| self.below.is_none_or(|below| name < below);
         let methods: Vec<(u16, u16, u16)> = members
             .iter()
+            .filter(|member| allowed(member.name))
             .filter_map(|member| match member.kind {
                 Kind::Method { argument, result } => Some((member.name, argument, result)),
                 Kind::Field { .. } => None,

@@ -3,6 +3,8 @@
 
 #![forbid(unsafe_code)]
 
+mod bound_edges;
+pub mod bounds;
 pub mod cases;
 pub mod census;
 mod code;
@@ -10,6 +12,7 @@ mod damage;
 mod draft;
 mod edges;
 mod group;
+mod ladder;
 mod mill;
 mod misfit;
 mod mutate;
@@ -18,14 +21,19 @@ mod readable;
 pub mod report;
 mod rng;
 mod rows;
+mod stray;
+mod strict;
 mod style;
+mod summit;
 mod tower;
 pub mod walk;
 
 use draft::{render, Draft};
 use rng::Rng;
 
+pub use bound_edges::{bound_edges, BoundAnswer};
 pub use group::group;
+pub use strict::ROTATION as STRICT_ROTATION;
 
 /// After this number of indexes the kinds come round again.
 pub const ROTATION: u64 = 22;
@@ -65,6 +73,12 @@ pub fn mill(seed: u64, index: u64) -> Vec<u8> {
 /// and is mostly ill typed.
 pub fn readable(seed: u64, index: u64) -> Vec<u8> {
     render(&readable::readable(&mut Rng::new(seed, index)))
+}
+
+/// A sheet for the question for the most steps, beside the rotation: it is
+/// sure to finish, or one call away from that. The index decides the kind.
+pub fn strict(seed: u64, index: u64) -> Vec<u8> {
+    render(&strict::strict(&mut Rng::new(seed, index), index))
 }
 
 /// A well-typed sheet: seven styles, towers, and sheets of mostly rows.

@@ -10,11 +10,15 @@ usage: generator SEED INDEX           write one sheet to standard output
        generator mill SEED INDEX      write one mill to standard output
        generator readable SEED INDEX  write one readable sheet, mostly ill
                                       typed, to standard output
+       generator strict SEED INDEX    write one sheet that is sure to finish, or
+                                      is one call away from that, to standard
+                                      output
        generator report SEED COUNT    judge and run sheets 0 to COUNT - 1 of a
                                       seed and tell what they reach; exits with
                                       status 1 if a refusal from 2 to 10, an
-                                      outcome or a case of misfit is reached by
-                                      none
+                                      outcome, a case of misfit or an answer to
+                                      the question for the most steps is
+                                      reached by none
        generator --help               this text
 
 SEED, INDEX and COUNT are decimals of 64 bits.
@@ -38,6 +42,10 @@ fn main() -> ExitCode {
         },
         ["readable", seed, index] => match (number(seed), number(index)) {
             (Some(seed), Some(index)) => put(&generator::readable(seed, index)),
+            _ => return wrong(),
+        },
+        ["strict", seed, index] => match (number(seed), number(index)) {
+            (Some(seed), Some(index)) => put(&generator::strict(seed, index)),
             _ => return wrong(),
         },
         [seed, index] => match (number(seed), number(index)) {

@@ -139,6 +139,7 @@ pub fn write_sheet(rng: &mut Rng, plan: &Plan) -> Draft {
         plan,
         rng,
         own: None,
+        below: None,
         slots: Vec::new(),
     };
     let code = writer.write_main(main);
@@ -208,9 +209,14 @@ fn write_body(
         plan,
         rng,
         own: Some(own),
+        below: plan.style.strict.then_some(name),
         slots,
     };
-    // The body can always call itself with its own argument.
-    let itself = (line("call", &[0, name.into(), 1]), result);
-    writer.write(count, Some(result), Some(itself))
+    // The body can always call itself with its own argument, or give it back
+    // if it may not.
+    let last = match plan.style.strict {
+        false => (line("call", &[0, name.into(), 1]), result),
+        true => (line("copy", &[1]), argument),
+    };
+    writer.write(count, Some(result), Some(last))
 }

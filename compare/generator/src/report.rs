@@ -1,5 +1,6 @@
 //! A tally of what a run of sheets reaches.
 
+use crate::bounds::Bounds;
 use crate::cases::{causes, CASES, CAUSES};
 use crate::census::{census, Misfits, NAMES};
 use crate::rng::Rng;
@@ -8,6 +9,9 @@ use second::{FitAnswer, Refusal};
 
 /// Budgets at which the sheets of a report are run.
 const BUDGETS: [u32; 12] = [0, 1, 2, 7, 8, 20, 65, 66, 500, 10_000, 10_000, 100_000];
+
+/// There is a strict sheet for this many others.
+pub const STRICT_SHARE: u64 = 4;
 
 /// How many sheets reached each answer.
 #[derive(Clone, Debug, Default, PartialEq, Eq)]
@@ -32,6 +36,10 @@ pub struct Report {
     pub groups: [u64; 2],
     /// By the names of the census.
     pub uses: [u64; NAMES.len()],
+    /// The question for the most steps, asked of each sheet.
+    pub bounds: Bounds,
+    /// The same, asked of a strict sheet for every `STRICT_SHARE` sheets.
+    pub strict: Bounds,
 }
 
 /// Judges and runs `count` sheets of a seed.
@@ -53,6 +61,10 @@ impl Report {
         };
         self.sheets += 1;
         self.add_fit(text, rng);
+        self.bounds.add(text);
+        if index.is_multiple_of(STRICT_SHARE) {
+            self.strict.add(&crate::strict(seed, index / STRICT_SHARE));
+        }
         let answer = match second::run(text, budget) {
             Ok(answer) => answer,
             Err(refusal) => return self.add_refusal(text, refusal),
@@ -104,8 +116,8 @@ impl Report {
         }
     }
 
-    /// The refusals 2 to 10, outcomes and cases of misfit that no sheet
-    /// reached.
+    /// The refusals 2 to 10, outcomes, cases of misfit and answers to the
+    /// question for the most steps that no sheet reached.
     pub fn missing(&self) -> Vec<String> {
         let refusals = (2..=10)
             .filter(|number| self.refusals[*number] == 0)
@@ -114,7 +126,9 @@ impl Report {
             .filter(|number| self.outcomes[*number] == 0)
             .map(|number| format!("outcome {number}"));
         let misfits = self.misfits.missing();
-        refusals.chain(outcomes).chain(misfits).collect()
+        let bounds = self.strict.missing();
+        let counted = refusals.chain(outcomes);
+        counted.chain(misfits).chain(bounds).collect()
     }
 
     /// The tally, a line for each count.
@@ -142,6 +156,7 @@ impl Report {
         for (number, count) in self.lacks.iter().enumerate().skip(1) {
             lines += &format!("lack {number}: {count}\n");
         }
-        lines + &self.misfits.lines()
+        lines += &self.misfits.lines();
+        lines + &self.bounds.line("sheets") + &self.strict.line("strict sheets")
     }
 }

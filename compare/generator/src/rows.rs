@@ -19,7 +19,10 @@ pub fn make_rows(rng: &mut Rng, style: &Style) -> (Vec<Row>, FitTable) {
             _ if rng.chance(60) => varied_row(rng, &rows, &fit, style),
             _ => fresh_row(rng, rows.len(), style),
         };
-        let row = without_pure_fields(rng, row);
+        let mut row = without_pure_fields(rng, row);
+        if style.strict {
+            take_what_is_given(&mut row, &fit);
+        }
         if !rows.contains(&row) {
             rows.push(row);
             fit.extend(&rows);
@@ -42,6 +45,17 @@ fn without_pure_fields(rng: &mut Rng, mut row: Row) -> Row {
             .retain(|member| matches!(member.kind, Kind::Method { .. }));
     }
     row
+}
+
+/// Changes methods so that their argument fits their result.
+fn take_what_is_given(row: &mut Row, fit: &FitTable) {
+    for member in &mut row.members {
+        if let Kind::Method { argument, result } = &mut member.kind {
+            if !fit.fits(*argument, *result) {
+                *argument = *result;
+            }
+        }
+    }
 }
 
 fn fresh_row(rng: &mut Rng, lower: usize, style: &Style) -> Row {

@@ -21,6 +21,9 @@ pub struct Style {
     /// Whether they may copy it and give it away; if not, what is called was
     /// there before its caller, and runs end.
     pub own_given: bool,
+    /// Whether bodies call names below their own only. The argument of every
+    /// method then fits its result.
+    pub strict: bool,
 }
 
 const SMALL: Style = Style {
@@ -35,6 +38,7 @@ const SMALL: Style = Style {
     weights: [3, 3, 2, 2, 2],
     own_calls: false,
     own_given: true,
+    strict: false,
 };
 
 pub const TINY: Style = Style {
@@ -124,6 +128,39 @@ pub const CROSSED: Style = Style {
 
 /// Mills; they make their rows and forms themselves.
 pub const MILL: Style = Style { main: 32, ..SMALL };
+
+/// Bodies that call lower names: of a few, of any, and with much making.
+pub const STRICT: [Style; 3] = [
+    Style {
+        rows: 10,
+        members: 4,
+        names: 10,
+        forms: 12,
+        body: 6,
+        main: 16,
+        weights: [2, 8, 1, 1, 1],
+        own_calls: true,
+        strict: true,
+        ..SMALL
+    },
+    Style {
+        rows: 20,
+        forms: 24,
+        body: 16,
+        weights: [1, 9, 1, 1, 1],
+        own_calls: true,
+        strict: true,
+        ..LARGE
+    },
+    Style {
+        members: 6,
+        names: 16,
+        weights: [6, 6, 1, 1, 1],
+        own_calls: true,
+        strict: true,
+        ..BUSY
+    },
+];
 
 /// The styles of the rotation, in its order.
 pub const ALL: [Style; 7] = [TINY, SMALL, MIDDLE, LARGE, BUSY, LOOPING, FIELDS];

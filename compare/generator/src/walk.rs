@@ -1,7 +1,7 @@
 //! The lines of a sheet on which values go to declared places: kept places,
 //! arguments, fields and body results.
 
-use second::sheet::{Form, Instruction, Kind, Part, Placed, Row};
+use second::sheet::{Form, Instruction, Kind, Member, Part, Placed, Row};
 use second::Sheet;
 use std::cmp::Ordering;
 
@@ -73,6 +73,8 @@ impl Start<'_> {
 /// An instruction's line and what is known before it.
 pub struct Scene<'a> {
     pub own: Option<&'a Form>,
+    /// The name of the method whose body it is in.
+    pub name: Option<u16>,
     /// The rows of the filled slots.
     pub slots: Vec<u16>,
     /// The result row of the body whose last line this is.
@@ -124,18 +126,18 @@ fn row(sheet: &Sheet, number: u16) -> &Row {
     &sheet.rows[usize::from(number)]
 }
 
-/// Every form with each kind of its row's members and the part for it.
-fn parts(sheet: &Sheet) -> impl Iterator<Item = (&Form, Kind, &Part)> {
+/// Every form with each of its row's members and the part for it.
+fn parts(sheet: &Sheet) -> impl Iterator<Item = (&Form, &Member, &Part)> {
     sheet.forms.iter().flat_map(|form| {
         let members = &row(sheet, form.row).members;
         let parts = members.iter().zip(&form.parts);
-        parts.map(move |(member, part)| (form, member.kind, part))
+        parts.map(move |(member, part)| (form, member, part))
     })
 }
 
 /// The `init` lines.
 pub fn starts(sheet: &Sheet) -> Vec<Start<'_>> {
-    let start = |(own, kind, part)| match (kind, part) {
+    let start = |(own, member, part): (_, &Member, _)| match (member.kind, part) {
         (Kind::Field { row: asked }, &Part::Init { kept, line }) => Some(Start {
             own,
             kept,
@@ -151,28 +153,30 @@ pub fn starts(sheet: &Sheet) -> Vec<Start<'_>> {
 /// part that is not there.
 pub fn scenes(sheet: &Sheet) -> Vec<Scene<'_>> {
     let mut scenes = Vec::new();
-    for (form, kind, part) in parts(sheet) {
-        if let (Kind::Method { argument, result }, Part::Body(code)) = (kind, part) {
+    for (form, member, part) in parts(sheet) {
+        if let (Kind::Method { argument, result }, Part::Body(code)) = (member.kind, part) {
             let mut slots = vec![form.row, argument];
             slots.extend(form.keeps.iter().map(|keep| keep.row));
-            add_scenes(sheet, (Some(form), slots, Some(result)), code, &mut scenes);
+            let own = Some((form, member.name));
+            add_scenes(sheet, (own, slots, Some(result)), code, &mut scenes);
         }
     }
     add_scenes(sheet, (None, Vec::new(), None), &sheet.main, &mut scenes);
     scenes
 }
 
-/// Adds a body's or main's instructions, with its own form, the slots that
-/// are filled at its start and the row of its result.
+/// Adds a body's or main's instructions, with its own form and method, the
+/// slots that are filled at its start and the row of its result.
 fn add_scenes<'a>(
     sheet: &'a Sheet,
-    (own, mut slots, result): (Option<&'a Form>, Vec<u16>, Option<u16>),
+    (own, mut slots, result): (Option<(&'a Form, u16)>, Vec<u16>, Option<u16>),
     code: &'a [Placed],
     scenes: &mut Vec<Scene<'a>>,
 ) {
     for (place, placed) in code.iter().enumerate() {
         let scene = Scene {
-            own,
+            own: own.map(|own| own.0),
+            name: own.map(|own| own.1),
             slots: slots.clone(),
             result: result.filter(|_| place + 1 == code.len()),
             placed,

@@ -1,6 +1,8 @@
 //! The generator and what its sheets reach.
 
 mod answers;
+mod bounds;
+mod common;
 mod edges;
 mod forms;
 mod groups;
@@ -8,3 +10,5 @@ mod mills;
 mod misfits;
 mod report;
 mod sheets;
+mod strays;
+mod stricts;

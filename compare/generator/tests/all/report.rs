@@ -1,6 +1,7 @@
 //! The report and the program.
 
-use generator::report::{report, Report};
+use generator::bounds::Bounds;
+use generator::report::{report, Report, STRICT_SHARE};
 use std::process::{Command, Output};
 
 fn program(words: &[&str]) -> Output {
@@ -33,12 +34,32 @@ fn a_run_of_sheets_reaches_everything() {
     for number in 3..=10 {
         assert!(report.late[number] > 0, "no late refusal {number}");
     }
+    check_bounds(&report);
+}
+
+fn check_bounds(report: &Report) {
+    let all = |bounds: &Bounds| {
+        let refused = bounds.circular + bounds.beyond + bounds.others;
+        bounds.answered + refused
+    };
+    assert_eq!(all(&report.bounds), report.sheets);
+    assert_eq!(all(&report.strict), report.sheets.div_ceil(STRICT_SHARE));
+    assert!(report.bounds.answered > 0 && report.bounds.circular > 0);
+    let refused: u64 = report.refusals[..11].iter().sum();
+    assert_eq!(report.bounds.others, refused);
+    for (name, bounds) in [
+        ("sheets", &report.bounds),
+        ("strict sheets", &report.strict),
+    ] {
+        assert!(report.lines().contains(&bounds.line(name)));
+    }
 }
 
 #[test]
 fn what_is_missing_is_told() {
-    // Refusals, outcomes, and the cases of misfit alone and beside others.
-    assert_eq!(Report::default().missing().len(), 9 + 4 + 24 + 31);
+    // Refusals, outcomes, the cases of misfit alone and beside others, and
+    // answers to the question for the most steps.
+    assert_eq!(Report::default().missing().len(), 9 + 4 + 24 + 31 + 5);
     let few = program(&["report", "1", "3"]);
     assert_eq!(few.status.code(), Some(1));
     let message = String::from_utf8_lossy(&few.stderr).into_owned();
@@ -57,6 +78,8 @@ fn the_program_writes_sheets_and_reports() {
     assert_eq!(text.stdout, generator::mill(8, 3));
     let text = program(&["readable", "8", "3"]);
     assert_eq!(text.stdout, generator::readable(8, 3));
+    let text = program(&["strict", "8", "3"]);
+    assert_eq!(text.stdout, generator::strict(8, 3));
     let told = program(&["report", "2", "1500"]);
     assert_eq!(told.status.code(), Some(0));
     assert_eq!(told.stdout, report(2, 1_500).lines().into_bytes());
@@ -64,7 +87,7 @@ fn the_program_writes_sheets_and_reports() {
 
 #[test]
 fn wrong_command_lines() {
-    let cases: [&[&str]; 8] = [
+    let cases: [&[&str]; 9] = [
         &[],
         &["1"],
         &["1", "x"],
@@ -72,6 +95,7 @@ fn wrong_command_lines() {
         &["report", "1"],
         &["mill", "1", "x"],
         &["readable", "1", "x"],
+        &["strict", "1", "x"],
         &["a", "b", "c"],
     ];
     for words in cases {

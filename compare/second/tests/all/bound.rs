@@ -257,7 +257,7 @@ fn a_chain_through_all_names_fills_the_stack() {
     assert_eq!(run(&shorter, 134), (Outcome::Spent, 134, NO_VALUE, 8));
 }
 
-/// Amounts from 2^65 to 2^252; only main's own can be beyond count.
+/// Amounts between 2^65 and 2^254; only main's own can be beyond count.
 #[test]
 fn far_beyond_the_limit() {
     for width in 2..=16 {
