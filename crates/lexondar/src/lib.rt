@@ -6,6 +6,8 @@ ghost use Rattle.sheet_rules.specs.Stretch.{formReply};
 ghost use Rattle.type_rules.specs.declared.FitReply.{FitReply as FitAnswered};
 ghost use Rattle.type_rules.specs.FitQuestion.{fitReply};
 ghost use Rattle.type_rules.specs.Typing.{verdict};
+ghost use Rattle.bound_rules.specs.declared.BoundReply.{BoundReply as BoundReplied};
+ghost use Rattle.bound_rules.specs.BoundQuestion.{boundReply};
 ghost use Rattle.machine_rules.specs.declared.RunReply.{RunReply as RunReplied};
 ghost use Rattle.machine_rules.specs.Steps.{runReply};
 ghost use Rattle.authority_rules.specs.declared.AuthorityReply.{AuthorityReply as AuthorityReplied};
@@ -16,8 +18,9 @@ ghost use Rattle.authority_rules.specs.Report.{report};
 ghost use Rattle.question.specs.Asked.{Asked, AskedAlone};
 ghost use Rattle.authority.specs.Every.{everySize};
 ghost use Rattle.authority_question.specs.Asked.{heldReply, heldNumbers, reportReply, reportNumbers};
-ghost use Rattle.results.specs.Results.{fitResult, verdictResult, runResult, authorityResult, reportResult, formResult};
+ghost use Rattle.results.specs.Results.{fitResult, verdictResult, runResult, authorityResult, reportResult, formResult, boundResult};
 use results::AuthorityResult;
+use results::BoundResult;
 use results::FitResult;
 use results::FormResult;
 use results::ReportResult;
@@ -95,4 +98,12 @@ pub extern "C" fn lexondar_form(text: &[u8], form: usize, work: &mut [u16]) -> F
     ensures { λ r. ⌜ AskedAlone (formResult (formReply (now (text .entry)) form)) (formResult (FormReplied.Refused BufferTooShort 0)) (now (work .entry)) (now (work .exit)) r ⌝ }
 {
     results::form_result(form_question::ask_place(text, form, work))
+}
+
+// The most steps that a run of a text's sheet can need, if it is sure to finish.
+#[no_mangle]
+pub extern "C" fn lexondar_bound(text: &[u8], work: &mut [u16]) -> BoundResult
+    ensures { λ r. ⌜ AskedAlone (boundResult (boundReply (now (text .entry)))) (boundResult (BoundReplied.Refused BufferTooShort 0)) (now (work .entry)) (now (work .exit)) r ⌝ }
+{
+    results::bound_result(run_question::ask_bound(text, work))
 }

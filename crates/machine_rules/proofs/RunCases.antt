@@ -12,7 +12,7 @@ use Rattle.machine_rules.specs.Steps.{runReply, outcomeNumber}
 use Rattle.machine_rules.proofs.Opened.{running}
 
 -- a method makes 32 objects at each call, and main calls it eight times: the store is full after 271 steps
-abbrev maker : List String
+abbrev pub maker : List String
 maker =
     ("types=2" ∷ "type=0,0" ∷ "type=1,1" ∷ "def=1,0,0" ∷ "forms=2" ∷ "form=0,0" ∷ "form=1,0" ∷ "body=32" ∷ [])
     ++ replicate 32 "new=0"

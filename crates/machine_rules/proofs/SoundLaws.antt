@@ -25,7 +25,7 @@ use Rattle.machine_rules.proofs.NextLaws.{comes-step, comes-lack}
 use Rattle.machine_rules.proofs.NextSound.{sound-goes}
 
 -- a state that a step leaves was left by a step
-stateOf-step : (x : Next) (σ : State) → stateOf x ≡ some σ → (a : Action) × (x ≡ step a σ)
+pub stateOf-step : (x : Next) (σ : State) → stateOf x ≡ some σ → (a : Action) × (x ≡ step a σ)
 stateOf-step (finished v) σ e = clash (cc)
 stateOf-step (step a τ) σ e = (a, cc)
 stateOf-step storeFull σ e = clash (cc)

@@ -3,7 +3,7 @@
 use Prim.Native.Nat.{ℕ}
 use mathlib.Core.Path.{_≡_, refl}
 use mathlib.Core.Bool.{not}
-use mathlib.Core.List.{List}
+use mathlib.Core.List.{List, [], _∷_}
 use mathlib.Core.Option.{none, some}
 use lib.Dec.{T}
 use types.Run.{OneOf, miss}
@@ -14,21 +14,27 @@ use Rattle.sheet_rules.proofs.Reason as reason
 use Rattle.sheet_rules.specs.declared.Lack.{Lack}
 use Rattle.sheet_rules.specs.declared.Lack.the-variants.{Count, WrongKind, Unmet}
 use Rattle.sheet_rules.specs.declared.Reason.{Reason}
-use Rattle.sheet_rules.specs.declared.Reason.the-variants.{BufferTooShort, TextTooLong, Malformed, OutOfLimit, NotAscending, DuplicateRow, NotDefined, ImpureForm, NoSuchMember, Misfit, NoHolder}
+use Rattle.sheet_rules.specs.declared.Reason.the-variants.{BufferTooShort, TextTooLong, Malformed, OutOfLimit, NotAscending, DuplicateRow, NotDefined, ImpureForm, NoSuchMember, Misfit, NoHolder, CircularCall, BeyondCount}
 use Rattle.sheet_rules.specs.Answers.{reasonLack, lackName}
 
-pub no-misfit : (r : Reason) (ks : List ℕ) → T (not (hasKey ks 9)) → OneOf ks (tagOf reason.the-type r) → none ≡ reasonLack r
-no-misfit BufferTooShort ks t o = refl
-no-misfit TextTooLong ks t o = refl
-no-misfit Malformed ks t o = refl
-no-misfit OutOfLimit ks t o = refl
-no-misfit NotAscending ks t o = refl
-no-misfit DuplicateRow ks t o = refl
-no-misfit NotDefined ks t o = refl
-no-misfit ImpureForm ks t o = refl
-no-misfit NoSuchMember ks t o = refl
-no-misfit (Misfit l) ks t o = absurd (miss ks 9 t o)
-no-misfit NoHolder ks t o = refl
+-- the tags of the reasons that are no misfit
+abbrev others : List ℕ
+others = 0 ∷ 1 ∷ 2 ∷ 3 ∷ 4 ∷ 5 ∷ 6 ∷ 7 ∷ 8 ∷ 10 ∷ 11 ∷ 12 ∷ []
+
+pub no-misfit : (r : Reason) → OneOf others (tagOf reason.the-type r) → none ≡ reasonLack r
+no-misfit BufferTooShort o = refl
+no-misfit TextTooLong o = refl
+no-misfit Malformed o = refl
+no-misfit OutOfLimit o = refl
+no-misfit NotAscending o = refl
+no-misfit DuplicateRow o = refl
+no-misfit NotDefined o = refl
+no-misfit ImpureForm o = refl
+no-misfit NoSuchMember o = refl
+no-misfit (Misfit l) o = absurd (miss others 9 tt o)
+no-misfit NoHolder o = refl
+no-misfit CircularCall o = refl
+no-misfit BeyondCount o = refl
 
 pub no-name : (l : Lack) (ks : List ℕ) → T (not (hasKey ks 2)) → OneOf ks (tagOf lack.the-type l) → 0 ≡ lackName (some l)
 no-name Count ks t o = refl

@@ -1,4 +1,4 @@
--- What the library's answers are in numbers, as a caller in C has them (document 01, Turned away; document 02, order 3). Each begins
+-- What the library's answers are in numbers, as a caller in C has them (document 01, Turned away; document 02, orders 2 to 4). Each begins
 -- with four: a refusal's number and line, or 0 and 0; and what is lacking, with the name if it is a member. Stands on the answers.
 use Prim.Native.Nat.{ℕ}
 use mathlib.Core.Bool.{cond}
@@ -10,6 +10,7 @@ use Rattle.sheet_rules.specs.Stretch.{replyNumber, replyLine, replyLack, stretc
 use Rattle.type_rules.specs.declared.FitReply.{FitReply}
 use Rattle.machine_rules.specs.declared.RunReply.{RunReply}
 use Rattle.machine_rules.specs.Steps.{outcomeNumber}
+use Rattle.bound_rules.specs.declared.BoundReply.{BoundReply}
 use Rattle.authority_rules.specs.declared.AuthorityReply.{AuthorityReply}
 use Rattle.authority_rules.specs.declared.ReportReply.{ReportReply}
 use Rattle.results.specs.declared.FitResult.{FitResult}
@@ -18,6 +19,7 @@ use Rattle.results.specs.declared.VerdictResult.{VerdictResult}
 use Rattle.results.specs.declared.AuthorityResult.{AuthorityResult}
 use Rattle.results.specs.declared.ReportResult.{ReportResult}
 use Rattle.results.specs.declared.FormResult.{FormResult}
+use Rattle.results.specs.declared.BoundResult.{BoundResult}
 
 -- fit's answer: 1 for yes, and what is lacking for no (document 02, order 3)
 abbrev pub answerResult : FitAnswer → FitResult
@@ -58,3 +60,9 @@ reportResult (ReportReply.Refused r n) = countedResult (runResult (RunReply.Refu
 abbrev pub formResult : FormReply → FormResult
 formResult r =
     record { refusal = replyNumber r; line = replyLine r; lack = lackNumber (replyLack r); name = lackName (replyLack r); start = stretchStart r; length = stretchLength r }
+
+-- the bound question: the most steps that a run can need, or a refusal's numbers (document 02, order 4)
+abbrev pub boundResult : BoundReply → BoundResult
+boundResult (BoundReply.Needs m) = record { refusal = 0; line = 0; lack = 0; name = 0; steps = m }
+boundResult (BoundReply.Refused r n) =
+    record { refusal = numberOf r; line = n; lack = lackNumber (reasonLack r); name = lackName (reasonLack r); steps = 0 }

@@ -1,9 +1,10 @@
 // The questions' replies in numbers, as a caller in C has them. Every result begins with the same four: a refusal's number and line,
 // and what is lacking, with the name if it is a member.
 ghost use mathlib.Core.Path.{_≡_};
-ghost use Rattle.results.specs.Results.{answerResult, fitResult, verdictResult, runResult, authorityResult, countedResult, reportResult, formResult};
+ghost use Rattle.results.specs.Results.{answerResult, fitResult, verdictResult, runResult, authorityResult, countedResult, reportResult, formResult, boundResult};
 use authority_rules::AuthorityReply;
 use authority_rules::ReportReply;
+use bound_rules::BoundReply;
 use machine_rules::RunReply;
 use numbers::lack_of;
 use numbers::name_of;
@@ -82,6 +83,16 @@ pub struct FormResult {
     pub name: u32,
     pub start: usize,
     pub length: usize,
+}
+
+// The most steps that a run can need: a refusal's numbers, or four times 0 and the steps.
+#[repr(C)]
+pub struct BoundResult {
+    pub refusal: u32,
+    pub line: u32,
+    pub lack: u32,
+    pub name: u32,
+    pub steps: u32,
 }
 
 // Fit's answer in numbers.
@@ -253,6 +264,28 @@ pub fn form_result(reply: FormReply) -> FormResult
             name: name_of(reason),
             start: 0,
             length: 0,
+        },
+    }
+}
+
+// The bound question's reply in numbers.
+pub fn bound_result(reply: BoundReply) -> BoundResult
+    ensures { λ r. ⌜ r ≡ boundResult reply ⌝ }
+{
+    match reply {
+        BoundReply::Needs { steps } => BoundResult {
+            refusal: 0,
+            line: 0,
+            lack: 0,
+            name: 0,
+            steps,
+        },
+        BoundReply::Refused { reason, line } => BoundResult {
+            refusal: number_of(reason),
+            line,
+            lack: lack_of(reason),
+            name: name_of(reason),
+            steps: 0,
         },
     }
 }

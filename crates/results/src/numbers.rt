@@ -22,6 +22,8 @@ pub fn number_of(reason: Reason) -> u32
         Reason::NoSuchMember => 9,
         Reason::Misfit { .. } => 10,
         Reason::NoHolder => 11,
+        Reason::CircularCall => 12,
+        Reason::BeyondCount => 13,
     }
 }
 

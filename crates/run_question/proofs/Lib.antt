@@ -1,1 +1,2 @@
 pub mod ReplyLaws
+pub mod BoundReplyLaws

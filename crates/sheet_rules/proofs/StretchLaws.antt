@@ -19,7 +19,7 @@ use Rattle.sheet_rules.specs.declared.MemberKind.{MemberKind}
 use Rattle.sheet_rules.specs.declared.Operation.{Operation}
 use Rattle.sheet_rules.specs.declared.Place.{Place}
 use Rattle.sheet_rules.specs.declared.Reason.{Reason}
-use Rattle.sheet_rules.specs.declared.Reason.the-variants.{BufferTooShort, TextTooLong, Malformed, OutOfLimit, NotAscending, DuplicateRow, NotDefined, ImpureForm, NoSuchMember, Misfit, NoHolder}
+use Rattle.sheet_rules.specs.declared.Reason.the-variants.{BufferTooShort, TextTooLong, Malformed, OutOfLimit, NotAscending, DuplicateRow, NotDefined, ImpureForm, NoSuchMember, Misfit, NoHolder, CircularCall, BeyondCount}
 use Rattle.sheet_rules.specs.Answers.{numberOf}
 use Rattle.sheet_rules.specs.Keys.{bytes}
 use Rattle.sheet_rules.specs.Lines.{Line, line}
@@ -102,6 +102,8 @@ number-some ImpureForm = omega arith
 number-some NoSuchMember = omega arith
 number-some (Misfit l) = omega arith
 number-some NoHolder = omega arith
+number-some CircularCall = omega arith
+number-some BeyondCount = omega arith
 
 -- in a sheet: the form is there, or not
 module _ (text : List ℕ) (s : Sheet) (f : ℕ) where

@@ -1,17 +1,17 @@
--- The paper's numbers for the answers that are enums (document 01, Turned away; Fit and typing; document 02, order 3). Stands on the
--- shared types.
+-- The paper's numbers for the answers that are enums (document 01, Turned away; Fit and typing; document 02, orders 3 and 4). Stands
+-- on the shared types.
 use Prim.Native.Nat.{ℕ}
 use mathlib.Core.Bool.{Bool, true, false}
 use mathlib.Core.Option.{Option, none, some}
 use Rattle.sheet_rules.specs.declared.Lack.{Lack}
 use Rattle.sheet_rules.specs.declared.Reason.{Reason}
-use Rattle.sheet_rules.specs.declared.Reason.the-variants.{BufferTooShort, TextTooLong, Malformed, OutOfLimit, NotAscending, DuplicateRow, NotDefined, ImpureForm, NoSuchMember, Misfit, NoHolder}
+use Rattle.sheet_rules.specs.declared.Reason.the-variants.{BufferTooShort, TextTooLong, Malformed, OutOfLimit, NotAscending, DuplicateRow, NotDefined, ImpureForm, NoSuchMember, Misfit, NoHolder, CircularCall, BeyondCount}
 use Rattle.sheet_rules.specs.declared.Verdict.{Verdict}
 use Rattle.sheet_rules.specs.declared.Verdict.the-variants.{Accepted, Refused}
 use Rattle.sheet_rules.specs.declared.FitAnswer.{FitAnswer}
 use Rattle.sheet_rules.specs.declared.FitAnswer.the-variants.{Yes, WrongKind, Unmet}
 
--- the number of a refusal, with 01's word for it (Turned away)
+-- the number of a refusal, with the paper's word for it (Turned away)
 abbrev pub numberOf : Reason → ℕ
 -- short bowl
 numberOf BufferTooShort = 1
@@ -35,6 +35,10 @@ numberOf NoSuchMember = 9
 numberOf (Misfit l) = 10
 -- no holder
 numberOf NoHolder = 11
+-- circular call (document 02, order 4)
+numberOf CircularCall = 12
+-- beyond count (document 02, order 4)
+numberOf BeyondCount = 13
 
 -- the number and the line of a verdict: 0 and 0 when accepted (Turned away)
 abbrev pub verdictNumber : Verdict → ℕ
@@ -59,6 +63,8 @@ reasonLack ImpureForm = none
 reasonLack NoSuchMember = none
 reasonLack (Misfit l) = some l
 reasonLack NoHolder = none
+reasonLack CircularCall = none
+reasonLack BeyondCount = none
 
 -- what is lacking by a verdict (document 02, order 3)
 abbrev pub verdictLack : Verdict → Option Lack

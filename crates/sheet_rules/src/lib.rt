@@ -57,7 +57,7 @@ pub enum Lack {
     Unmet { name: u8 },
 }
 
-// Why a call is refused, in the order of the paper's numbers 1 to 11. A misfit says what is lacking.
+// Why a call is refused, in the order of the paper's numbers 1 to 13. A misfit says what is lacking.
 pub enum Reason {
     BufferTooShort,
     TextTooLong,
@@ -70,6 +70,8 @@ pub enum Reason {
     NoSuchMember,
     Misfit { lack: Lack },
     NoHolder,
+    CircularCall,
+    BeyondCount,
 }
 
 // The judgement of a sheet: accepted, or refused with the reason and the line at fault.

@@ -33,18 +33,18 @@ use Rattle.type_rules.proofs.TypingLaws.{Faultless, lastRow-snoc, resul
 
 -- LINES
 
-faultless-cons : {g : Fault} {gs : List Fault} → g ≡ none → Faultless gs → Faultless (g ∷ gs)
+pub faultless-cons : {g : Fault} {gs : List Fault} → g ≡ none → Faultless gs → Faultless (g ∷ gs)
 faultless-cons e h x (here p) = p ∙ e
 faultless-cons e h x (there i) = h x i
 
-faultless-append : (gs ks : List Fault) → Faultless gs → Faultless ks → Faultless (gs ++ ks)
+pub faultless-append : (gs ks : List Fault) → Faultless gs → Faultless ks → Faultless (gs ++ ks)
 faultless-append gs ks h k x i = go (in-cases gs ks i)
   where
     go : In x gs ⊎ In x ks → x ≡ none
     go (inl j) = h x j
     go (inr j) = k x j
 
-firstFault-accepts : (n : ℕ) (gs : List Fault) → Faultless gs → firstFault n gs ≡ Accepted
+pub firstFault-accepts : (n : ℕ) (gs : List Fault) → Faultless gs → firstFault n gs ≡ Accepted
 unfolding firstFault
 firstFault-accepts n [] h = refl
 firstFault-accepts n (g ∷ gs) h = go g (h g (here refl)) (firstFault-accepts (suc n) gs (λ x i. h x (there i)))
@@ -53,7 +53,7 @@ firstFault-accepts n (g ∷ gs) h = go g (h g (here refl)) (firstFault-accepts (
     go none e r = r
     go (some r) e q = cc
 
-passed : (b : Bool) (r : Reason) → T b → unless b r ≡ none
+pub passed : (b : Bool) (r : Reason) → T b → unless b r ≡ none
 passed b r t = ap (λ (x : Bool). unless x r) (T→true b t)
 
 answer-passes : (x : FitAnswer) → T (isYes x) → fitFault x ≡ none

@@ -35,14 +35,14 @@ use Rattle.type_rules.specs.Typed.{SlotFits, InstrTyped, typed-new, type
 abbrev pub Faultless : List Fault → Type 0
 Faultless gs = (g : Fault) → In g gs → g ≡ none
 
-firstFault-faultless : (n : ℕ) (gs : List Fault) → firstFault n gs ≡ Accepted → Faultless gs
+pub firstFault-faultless : (n : ℕ) (gs : List Fault) → firstFault n gs ≡ Accepted → Faultless gs
 unfolding firstFault
 firstFault-faultless n [] e g i = elim i [ ]
 firstFault-faultless n (none ∷ gs) e g (here p) = p
 firstFault-faultless n (none ∷ gs) e g (there i) = firstFault-faultless (suc n) gs e g i
 firstFault-faultless n (some r ∷ gs) e g i = clash (cc)
 
-unless-passed : (b : Bool) (r : Reason) → unless b r ≡ none → T b
+pub unless-passed : (b : Bool) (r : Reason) → unless b r ≡ none → T b
 unless-passed true r e = tt
 unless-passed false r e = clash (cc)
 

@@ -12,7 +12,7 @@ use instr_typing::FoundRow;
 use sheet_rules::Verdict;
 
 // The line of the first form: after the `types` line, the rows and the `forms` line.
-fn first_form_line(work: &[u16]) -> u32
+pub fn first_form_line(work: &[u16]) -> u32
     requires { ⌜ Whole (now work) ⌝ }
     ensures { λ r. ⌜ (r ≡ firstFormLine (sheetIn (now (work .entry)))) × (r + 17505 ≤ lineLimit) ⌝ }
 {
@@ -64,7 +64,7 @@ fn judge_main(work: &mut [u16], line: u32) -> Walked
 }
 
 // The verdict of a walk over all lines.
-fn verdict_of(walked: Walked) -> Verdict
+pub fn verdict_of(walked: Walked) -> Verdict
     ensures { λ r. ⌜ r ≡ walkVerdict walked ⌝ }
 {
     match walked {

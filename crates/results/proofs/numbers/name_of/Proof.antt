@@ -11,7 +11,7 @@ name-of-spec =
     tie.close
     (tie.spec
     (λ c. search needs)
-    (λ c. ap lackName (no-misfit (c .before .args .reason) (0 ∷ 1 ∷ 2 ∷ 3 ∷ 4 ∷ 5 ∷ 6 ∷ 7 ∷ 8 ∷ 10 ∷ []) tt (c .match .keys2)))
+    (λ c. ap lackName (no-misfit (c .before .args .reason) (c .match .keys2)))
     (λ c. search needs)
     (λ c. no-name (c .before .before .reason .given .0 .0) (0 ∷ 1 ∷ []) tt (c .match2 .keys2) ∙ sym (ap (λ r. lackName (reasonLack r)) (c .before .before .reason .given .1)))
     (λ c. search needs) (λ c. search needs))

@@ -1,0 +1,160 @@
+// The most steps that names and main can need, over the table. Amounts of names are cut off at 4,294,967,295: a call adds a step of its
+// own, so that whoever calls a name that was cut off is over the limit, as it is by the name's own amount.
+ghost use mathlib.Core.Path.{_≡_};
+ghost use Prim.Native.Nat.{_≤_, _<_, min, max};
+ghost use lib.ListN.{length};
+ghost use Rattle.sheet_rules.specs.Sheet.{calledName, formAt};
+ghost use Rattle.table.specs.Layout.{workSize};
+ghost use Rattle.table.specs.Told.{partTold};
+ghost use Rattle.table.specs.View.{instrIn, instrsIn, sheetIn};
+ghost use Rattle.table.specs.Whole.{Whole};
+ghost use Rattle.bound_rules.specs.Strict.{bodyOf};
+ghost use Rattle.bound_rules.specs.Amount.{amountAt, calledAmount, codeAmount, bodyAmount, nameAmount, mainAmount, amounts as allAmounts};
+ghost use Rattle.bound_rules.specs.BoundQuestion.{amountLimit, counted};
+ghost use Rattle.bound.specs.Told.{isMethod, codeOf, CutOff, Zeros};
+ghost use Rattle.form_typing.specs.Told.{PlaceSmall};
+use crate::Called;
+use sheet_rules::Member;
+use table::forms::PartPlace;
+use table::rows::wide;
+
+// The amount of a name; 0 for one beyond the list.
+fn amount_of(amounts: &[u32], name: usize) -> u32
+    ensures { λ r. ⌜ r ≡ amountAt (now (amounts .entry)) name ⌝ }
+{
+    if amounts.len() <= name {
+        return 0;
+    }
+    amounts[name]
+}
+
+// What the instruction at place p adds by its call.
+fn called_amount(work: &[u16], amounts: &[u32], p: usize) -> u32
+    requires { ⌜ workSize ≤ length (now work) ⌝ }
+    ensures { λ r. ⌜ r ≡ calledAmount (now (amounts .entry)) (calledName (instrIn (now (work .entry)) p)) ⌝ }
+{
+    match crate::called_at(work, p) {
+        Called::Method { name } => amount_of(amounts, wide(name)),
+        Called::Nothing => 0,
+    }
+}
+
+// The amount of `count` instructions, from place `start` of the pool on.
+fn code_amount(work: &[u16], amounts: &[u32], start: u16, count: usize) -> u64
+    requires { ⌜ (workSize ≤ length (now work)) × (count ≤ 32) ⌝ }
+    ensures { λ r. ⌜ (r ≡ codeAmount (now (amounts .entry)) (instrsIn (now (work .entry)) start count)) × (r ≤ 137438953472) ⌝ }
+{
+    let mut amount: u64 = 0;
+    let mut j: usize = 0;
+    while j < count {
+        let added = called_amount(work, amounts, wide(start) + j);
+        amount = amount + 1 + added as u64;
+        j = j + 1;
+    }
+    amount
+}
+
+// An amount, cut off at the limit.
+fn cut(amount: u64) -> u32
+    ensures { λ r. ⌜ r ≡ min amount amountLimit ⌝ }
+{
+    if amount <= 4294967295 {
+        return amount as u32;
+    }
+    4294967295
+}
+
+// The amount of a body, with one for the return; 0 of an `init`.
+fn part_amount(work: &[u16], amounts: &[u32], place: PartPlace) -> u32
+    requires { ⌜ (workSize ≤ length (now work)) × PlaceSmall place ⌝ }
+    ensures { λ r. ⌜ r ≡ min (bodyAmount (now (amounts .entry)) (codeOf (partTold (now (work .entry)) place))) amountLimit ⌝ }
+{
+    match place {
+        PartPlace::Body { start, count } => {
+            let amount = code_amount(work, amounts, start, wide(count));
+            cut(amount + 1)
+        }
+        PartPlace::Init { .. } => 0,
+    }
+}
+
+// A member is the method of a name.
+fn is_method(m: Member, name: usize) -> bool
+    ensures { λ r. ⌜ r ≡ isMethod m name ⌝ }
+{
+    match m {
+        Member::Method {
+            name: n,
+            argument: _,
+            result: _,
+        } => wide(n) == name,
+        Member::Field { .. } => false,
+    }
+}
+
+// The amount of form f's body of a name, cut off at the limit; 0 if it has none.
+fn form_amount(work: &[u16], amounts: &[u32], f: usize, name: usize) -> u32
+    requires { ⌜ Whole (now work) × (f < length ((sheetIn (now work)) .forms)) ⌝ }
+    ensures { λ r. ⌜ r ≡ min (bodyAmount (now (amounts .entry)) (bodyOf (sheetIn (now (work .entry))) (formAt (sheetIn (now (work .entry))) f) name)) amountLimit ⌝ }
+{
+    let row = wide(table::forms::form_row(work, f));
+    let count = table::rows::members_at(work, row);
+    let mut j: usize = 0;
+    while j < count {
+        if is_method(table::rows::member(work, row, j), name) {
+            return part_amount(work, amounts, table::forms::part(work, f, j));
+        }
+        j = j + 1;
+    }
+    0
+}
+
+// The larger of two numbers.
+fn larger(a: u32, b: u32) -> u32
+    ensures { λ r. ⌜ r ≡ max a b ⌝ }
+{
+    if a < b {
+        return b;
+    }
+    a
+}
+
+// The amount of a name, by those of the others, cut off at the limit: the largest over its bodies.
+fn name_amount(work: &[u16], amounts: &[u32], name: usize) -> u32
+    requires { ⌜ Whole (now work) ⌝ }
+    ensures { λ r. ⌜ r ≡ min (nameAmount (sheetIn (now (work .entry))) (now (amounts .entry)) name) amountLimit ⌝ }
+{
+    let count = table::forms::form_count(work);
+    let mut largest: u32 = 0;
+    let mut f: usize = 0;
+    while f < count {
+        largest = larger(largest, form_amount(work, amounts, f, name));
+        f = f + 1;
+    }
+    largest
+}
+
+// The amounts of all names, cut off at the limit, in ascending order: in a sheet of the stricter kind a body calls lower names alone.
+fn fill_amounts(work: &[u16], amounts: &mut [u32])
+    requires { ⌜ Whole (now work) × Zeros (now amounts) ⌝ }
+    ensures { λ r. ⌜ CutOff (allAmounts (sheetIn (now (work .entry)))) (now (amounts .exit)) ⌝ }
+{
+    let mut name: usize = 0;
+    while name < 64 {
+        let amount = name_amount(work, amounts, name);
+        amounts[name] = amount;
+        name = name + 1;
+    }
+}
+
+// Main's amount, or a number over the limit where main's amount is over it.
+pub fn main_amount(work: &[u16]) -> u64
+    requires { ⌜ Whole (now work) ⌝ }
+    ensures { λ r. ⌜ counted r ≡ counted (mainAmount (sheetIn (now (work .entry)))) ⌝ }
+{
+    let mut amounts: [u32; 64] = [0; 64];
+    fill_amounts(work, &mut amounts[..]);
+    let start = table::instrs::main_start(work);
+    let count = table::instrs::main_count(work);
+    code_amount(work, &amounts[..], start, count)
+}

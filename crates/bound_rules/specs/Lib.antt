@@ -1,0 +1,4 @@
+pub mod Strict
+pub mod Amount
+pub mod BoundQuestion
+pub mod Sure
