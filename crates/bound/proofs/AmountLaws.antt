@@ -5,15 +5,15 @@ use native.Mathlib.Omega.{arith}
 use native.Mathlib.Numerals.{add-one}
 use mathlib.Core.Path.{_≡_, refl, sym, ap, ap₂, _∙_, subst}
 use mathlib.Core.Bool.{Bool, true, false, cond}
-use mathlib.Core.List.{List, [], _∷_}
-use mathlib.Core.Option.{Option, none, some}
+use mathlib.Core.List.{List, _∷_}
+use mathlib.Core.Option.{Option, some}
 use lib.ListN.{length, getD, drop, drop-of-length-le}
 use lib.Seq.{drop-cons}
 use Rattle.lists.proofs.Tests.{clash}
 use Rattle.lists.proofs.TabLaws.{length-tab, getD-tab}
 use Rattle.sheet_rules.specs.declared.Member.{Member}
 use Rattle.sheet_rules.specs.declared.Member.the-variants.{Method, Field}
-use Rattle.sheet_rules.specs.Sheet.{Instr, copy, calledName, Part, init, body, Form, Sheet, noMember, noForm, formAt}
+use Rattle.sheet_rules.specs.Sheet.{Instr, copy, calledName, Part, init, body, Sheet, noMember, noForm, formAt}
 use Rattle.sheet_rules.specs.WellFormed.{PartOf}
 use Rattle.type_rules.specs.Typing.{membersAt}
 use Rattle.machine_rules.specs.Step.{bodyIn}

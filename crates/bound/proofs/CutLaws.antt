@@ -1,6 +1,6 @@
 -- Amounts that are cut off at the limit: whoever calls a name that was cut off is over the limit by either list, since a call adds one;
 -- so amounts cut off, and main's answer, are the same. Assumes nothing.
-use Prim.Native.Nat.{ℕ, zero, suc, _+_, _≤_, _<_, min, max}
+use Prim.Native.Nat.{ℕ, suc, _+_, _≤_, _<_, min, max}
 use native.Mathlib.Omega.{arith}
 use native.Mathlib.Decide.{decLe}
 use native.Mathlib.Numerals.{add-one}
@@ -13,7 +13,7 @@ use lib.Seq.{getD-at, getD-set-same, getD-set-other}
 use Rattle.sheet_rules.specs.Limits.{nameLimit}
 use Rattle.sheet_rules.specs.Sheet.{Instr, calledName, Form, Sheet}
 use Rattle.bound_rules.specs.Strict.{bodyOf}
-use Rattle.bound_rules.specs.Amount.{amountAt, calledAmount, codeAmount, bodyAmount, largestIn, nameAmount, amountsBelow, amounts, mainAmount}
+use Rattle.bound_rules.specs.Amount.{amountAt, calledAmount, codeAmount, bodyAmount, largestIn, nameAmount, amountsBelow, amounts}
 use Rattle.bound_rules.specs.BoundQuestion.{amountLimit, counted}
 use Rattle.bound_rules.proofs.AmountLaws.{amounts-length}
 use Rattle.bound_rules.proofs.BoundLaws.{counted-over}

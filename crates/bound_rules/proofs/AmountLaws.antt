@@ -1,18 +1,17 @@
--- Laws of amounts: each body of a name is within the name's amount, and in a sheet of the stricter kind a name's amount is the paper's
--- equation, the largest over its bodies by the amounts of all names. Assumes nothing.
-use Prim.Native.Nat.{ℕ, zero, suc, _+_, _≤_, _<_, max}
+-- Laws of amounts: in a sheet of the stricter kind a name's amount is the paper's equation, the largest over its bodies by the amounts of
+-- all names, which has no other solution; and each body of a name is within the name's amount. Assumes nothing.
+use Prim.Native.Nat.{ℕ, zero, suc, _+_, _≤_, _<_}
 use native.Mathlib.Omega.{arith}
 use native.Mathlib.Decide.{decLe}
-use mathlib.Core.Path.{_≡_, refl, sym, ap, ap₂, _∙_, subst}
-use mathlib.Core.Bool.{Bool, true, false, cond}
+use mathlib.Core.Path.{_≡_, refl, sym, ap, ap₂, _∙_}
+use mathlib.Core.Bool.{Bool, cond}
 use mathlib.Core.List.{List, [], _∷_, _++_}
 use mathlib.Core.Option.{Option, none, some}
-use lib.ListN.{length, getD, length-append, List·getD-append, List·getD-eq-default}
+use lib.ListN.{length, length-append, List·getD-append, List·getD-eq-default}
 use lib.Seq.{getD-at}
 use borrow.Author.Tests.{ne-eqb}
 use Rattle.lists.specs.In.{In, here, there}
 use Rattle.lists.proofs.InLaws.{in-nil}
-use Rattle.lists.proofs.Tests.{clash}
 use Rattle.sheet_rules.specs.declared.Member.{Member}
 use Rattle.sheet_rules.specs.declared.Member.the-variants.{Method, Field}
 use Rattle.sheet_rules.specs.Limits.{nameLimit}
@@ -23,6 +22,7 @@ use Rattle.type_rules.specs.Typing.{membersAt}
 use Rattle.machine_rules.specs.Step.{bodyIn}
 use Rattle.bound_rules.specs.Strict.{bodyOf, CallsBelow, Strict}
 use Rattle.bound_rules.specs.Amount.{amountAt, calledAmount, codeAmount, bodyAmount, largestIn, nameAmount, amountsBelow, amounts}
+use Rattle.bound_rules.proofs.StrictLaws.{PartFor, body-found}
 
 -- WHAT AN AMOUNT GOES BY
 
@@ -43,12 +43,12 @@ module _ (n : ℕ) (xs ys : List ℕ) (same : SameBelow n xs ys) where
 
   body-same : (c : Option (List Instr)) → ((is : List Instr) → c ≡ some is → CallsBelow n is) → bodyAmount xs c ≡ bodyAmount ys c
   body-same none h = refl
-  body-same (some is) h = ap suc (code-same is (h is refl))
+  body-same (some is) h = rw (code-same is (h is refl))
 
   largest-same : (s : Sheet) (fs : List Form) → ((f : Form) → In f fs → (is : List Instr) → bodyOf s f n ≡ some is → CallsBelow n is) → largestIn s xs n fs ≡ largestIn s ys n fs
   unfolding largestIn
   largest-same s [] h = refl
-  largest-same s (f ∷ fs) h = ap₂ max (body-same (bodyOf s f n) (h f (here refl))) (largest-same s fs (λ g i. h g (there i)))
+  largest-same s (f ∷ fs) h = rw (body-same (bodyOf s f n) (h f (here refl)), largest-same s fs (λ g i. h g (there i)))
 
 -- THE LARGEST OVER A NAME'S BODIES
 
@@ -65,7 +65,7 @@ largest-covers s xs n (g ∷ fs) f is (there i) e = let h = largest-covers s xs 
 largest-none : (s : Sheet) (xs : List ℕ) (n : ℕ) (fs : List Form) → ((f : Form) → In f fs → bodyOf s f n ≡ none) → largestIn s xs n fs ≡ 0
 unfolding largestIn
 largest-none s xs n [] h = refl
-largest-none s xs n (f ∷ fs) h = ap₂ max (ap (bodyAmount xs) (h f (here refl))) (largest-none s xs n fs (λ g i. h g (there i)))
+largest-none s xs n (f ∷ fs) h = rw (h f (here refl), largest-none s xs n fs (λ g i. h g (there i)))
 
 -- a name over the limit has no body
 none-above : (n : ℕ) (ms : List Member) (ps : List Part) → ((x : Member) → In x ms → nameOf x < n) → bodyIn ms ps n ≡ none
@@ -121,6 +121,22 @@ module _ (s : Sheet) where
             ∙ sym (largest-none s (amountsBelow s (suc nameLimit)) n (s .forms)
             (λ f i. none-above n (membersAt s (f .row)) (f .parts) (λ x j. let l = (w .rows (f .row)) .low x j in omega arith)))
 
+    -- and no other amounts are: the equation settles them
+    pub amount-unique : (xs : List ℕ) → ((n : ℕ) → amountAt xs n ≡ nameAmount s xs n) → (n : ℕ) → amountAt xs n ≡ amountAt (amounts s) n
+    amount-unique xs equation n = below (suc n) n (omega arith)
+      where
+        settled : (m : ℕ) → SameBelow m xs (amounts s) → amountAt xs m ≡ amountAt (amounts s) m
+        settled m same = equation m ∙ largest-same m xs (amounts s) same s (s .forms) (λ f i is e. strict f i m is e) ∙ sym (amount-is m)
+
+        below : (k : ℕ) → SameBelow k xs (amounts s)
+        below zero m l = absurd (omega arith)
+        below (suc k) m l = settled m (λ i h. below k i (omega arith))
+
     -- so each body of a name is within the name's amount
     pub amount-covers : (n : ℕ) (f : Form) (is : List Instr) → In f (s .forms) → bodyOf s f n ≡ some is → suc (codeAmount (amounts s) is) ≤ amountAt (amounts s) n
     amount-covers n f is i e = let h = largest-covers s (amounts s) n (s .forms) f is i e in let q = amount-is n in omega arith
+
+    -- whatever form it stands in, and whether anybody makes that form or not
+    pub every-body : (f : Form) → In f (s .forms) → {n a r : ℕ} {is : List Instr} → PartFor (Method n a r) (body is) (membersAt s (f .row)) (f .parts)
+        → suc (codeAmount (amounts s) is) ≤ amountAt (amounts s) n
+    every-body f i {n} {is = is} p = amount-covers n f is i (body-found ((w .rows (f .row)) .names) p)

@@ -1,6 +1,6 @@
 -- Computed cases of the bound question: which calls are against the rule and on which line, what counts towards an amount, and both
 -- sides of the limit. Assumes nothing.
-use Prim.Native.Nat.{ℕ, zero, suc}
+use Prim.Native.Nat.{ℕ}
 use Prim.Native.String.{String}
 use mathlib.Core.Path.{_≡_, refl}
 use mathlib.Core.List.{List, [], _∷_, _++_, map}
@@ -50,26 +50,21 @@ station =
     ∷ "call=1,3,0"
     ∷ []
 
--- the body of a method that calls the one before it 16 times, and then copies
-abbrev floor : String → List String → List String → List String
-floor size calls copies = size ∷ (calls ++ copies)
-
 abbrev copies : ℕ → List String
 copies n = replicate n "copy=1"
 
+-- a body of 16 calls and 13 copies
+abbrev floor : String → List String
+floor calling = "body=29" ∷ (replicate 16 calling ++ copies 13)
+
 -- methods 0 to 7 of one form: of method 0, 13 copies; of each other, 16 calls of the one before it and 13 copies, of 7 as many as are
--- given. An amount and one more of method 0 is 15, of the next 255, then 4,095, and so on: 16 times the one before it and 15
+-- given. One more than the amount of method 0 is 15, of the next 255, then 4,095, and so on: each 16 times the one before it and 15
 abbrev tower : String → ℕ → List String → List String
 tower last n end =
     ("types=2" ∷ "type=0,0" ∷ "type=1,8" ∷ "def=0,0,0" ∷ "def=1,0,0" ∷ "def=2,0,0" ∷ "def=3,0,0" ∷ "def=4,0,0" ∷ "def=5,0,0" ∷ "def=6,0,0" ∷ "def=7,0,0" ∷ [])
     ++ ("forms=2" ∷ "form=0,0" ∷ "form=1,0" ∷ "body=13" ∷ copies 13)
-    ++ floor "body=29" (replicate 16 "call=0,0,1") (copies 13)
-    ++ floor "body=29" (replicate 16 "call=0,1,1") (copies 13)
-    ++ floor "body=29" (replicate 16 "call=0,2,1") (copies 13)
-    ++ floor "body=29" (replicate 16 "call=0,3,1") (copies 13)
-    ++ floor "body=29" (replicate 16 "call=0,4,1") (copies 13)
-    ++ floor "body=29" (replicate 16 "call=0,5,1") (copies 13)
-    ++ floor last (replicate 16 "call=0,6,1") (copies n)
+    ++ floor "call=0,0,1" ++ floor "call=0,1,1" ++ floor "call=0,2,1" ++ floor "call=0,3,1" ++ floor "call=0,4,1" ++ floor "call=0,5,1"
+    ++ (last ∷ (replicate 16 "call=0,6,1" ++ copies n))
     ++ end
 
 -- the steps, or the refusal's number and line
@@ -105,9 +100,9 @@ cases =
     -- both sides of the limit
     ∷ of (tower "body=27" 11 ("main=3" ∷ "new=0" ∷ "new=1" ∷ "call=1,7,0" ∷ [])) (4294967295 ∷ [])
     ∷ of (tower "body=27" 11 ("main=4" ∷ "new=0" ∷ "new=1" ∷ "call=1,7,0" ∷ "copy=0" ∷ [])) (13 ∷ 0 ∷ [])
-    ∷ of (tower "body=29" 13 ("main=3" ∷ "new=0" ∷ "new=1" ∷ "call=1,7,0" ∷ [])) (13 ∷ 0 ∷ [])
-    -- a name over the limit that main does not need
-    ∷ of (tower "body=29" 13 ("main=3" ∷ "new=0" ∷ "new=1" ∷ "call=1,0,0" ∷ [])) (17 ∷ [])
+    -- a name over the limit, of 4,294,967,296, where main needs it and where it does not
+    ∷ of (tower "body=31" 15 ("main=3" ∷ "new=0" ∷ "new=1" ∷ "call=1,7,0" ∷ [])) (13 ∷ 0 ∷ [])
+    ∷ of (tower "body=31" 15 ("main=3" ∷ "new=0" ∷ "new=1" ∷ "call=1,0,0" ∷ [])) (17 ∷ [])
     ∷ []
 
 pub all : map (λ c. numbers (boundReply (textOf (c .sheet)))) cases ≡ map (λ c. c .wanted) cases

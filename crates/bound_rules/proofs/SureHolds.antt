@@ -1,6 +1,6 @@
 -- What the bound says of every run holds: each step lowers what a state can still need, so n steps and what is needed after them are at
 -- most main's amount; and a run whose budget is spent would still need a step. Assumes nothing.
-use Prim.Native.Nat.{ℕ, zero, suc, _+_, _≤_, _<_}
+use Prim.Native.Nat.{ℕ, zero, suc, _+_, _≤_}
 use native.Mathlib.Omega.{arith}
 use native.Mathlib.Decide.{decLe}
 use mathlib.Core.Path.{_≡_, refl, sym, ap, _∙_, subst}
@@ -8,12 +8,10 @@ use mathlib.Core.Bool.{Bool, true, false, cond}
 use mathlib.Core.List.{List, [], _∷_}
 use mathlib.Core.Option.{Option, none, some}
 use lib.Dec.{ltb}
-use lib.ListN.{length, getD, List·getD-eq-default}
-use Rattle.lists.specs.In.{In}
+use lib.ListN.{length, List·getD-eq-default}
 use Rattle.lists.proofs.InLaws.{in-getD}
 use Rattle.lists.proofs.Tests.{clash}
 use Rattle.sheet_rules.specs.declared.Member.{Member}
-use Rattle.sheet_rules.specs.declared.Member.the-variants.{Method, Field}
 use Rattle.sheet_rules.specs.Limits.{storeLimit, stackLimit}
 use Rattle.sheet_rules.specs.Sheet.{Instr, new, call, get, put, copy, calledName, Form, Sheet, noForm, formAt}
 use Rattle.sheet_rules.specs.WellFormed.{WellFormed}
@@ -24,9 +22,9 @@ use Rattle.type_rules.proofs.TypingLaws.{accepted-on}
 use Rattle.machine_rules.specs.declared.Outcome.{Outcome}
 use Rattle.machine_rules.specs.declared.Outcome.the-variants.{Done, Spent, StoreFull, StackFull}
 use Rattle.machine_rules.specs.declared.RunReply.{RunReply}
-use Rattle.machine_rules.specs.State.{Object, Frame, State, frameCount, start, objectAt}
-use Rattle.machine_rules.specs.Step.{Action, creates, Next, step, storeFull, stackFull, lacking, bodyIn, fieldPlace, membersOf, slotValues, withNew, newStep, entered, calledStep, callStep, gotStep, getStep, hasPutStep, putStep, instrStep, returnStep, codeStep, nextStep}
-use Rattle.machine_rules.specs.Steps.{stateOf, stepFrom, after, run, answerOf, runReply}
+use Rattle.machine_rules.specs.State.{Frame, State, frameCount, start, objectAt}
+use Rattle.machine_rules.specs.Step.{creates, Next, step, storeFull, stackFull, bodyIn, fieldPlace, membersOf, slotValues, withNew, newStep, entered, calledStep, callStep, gotStep, getStep, hasPutStep, putStep, instrStep, returnStep, codeStep, nextStep}
+use Rattle.machine_rules.specs.Steps.{stepFrom, after, run, answerOf, runReply}
 use Rattle.machine_rules.proofs.NextLaws.{Comes, its-end, its-step, its-store, its-stack, its-lack, comes-step}
 use Rattle.machine_rules.proofs.StepsLaws.{isFinished, Why, run-ends}
 use Rattle.machine_rules.proofs.TakenLaws.{take-end}

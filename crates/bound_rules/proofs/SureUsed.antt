@@ -2,14 +2,13 @@
 -- nothing; but a sheet that is sure to finish may still fill the stack, or the store. Assumes nothing.
 use Prim.Native.Nat.{ℕ, zero, suc, _+_, _*_, _≤_}
 use native.Mathlib.Omega.{arith}
-use mathlib.Core.Path.{_≡_, refl, sym, ap, _∙_, subst}
+use mathlib.Core.Path.{_≡_, refl, sym, ap, _∙_}
 use mathlib.Core.List.{List, [], _∷_, _++_}
 use mathlib.Core.Option.{Option, none, some}
 use Rattle.lists.specs.Tab.{tab}
-use Rattle.lists.proofs.Tests.{clash}
 use Rattle.sheet_rules.specs.declared.Kind.the-variants.{Resource}
 use Rattle.sheet_rules.specs.declared.Member.the-variants.{Method}
-use Rattle.sheet_rules.specs.Sheet.{Row, Instr, new, call, copy, Part, body, Form, Sheet, noRow, noForm}
+use Rattle.sheet_rules.specs.Sheet.{Row, Instr, new, call, copy, body, Form, Sheet, noRow, noForm}
 use Rattle.sheet_rules.specs.Print.{print}
 use Rattle.sheet_rules.specs.Reading.{meaning}
 use Rattle.sheet_rules.specs.Samples.{textOf}
