@@ -11,13 +11,15 @@ use mathlib.Core.Logic.{_⊎_, inl, inr}
 use lib.ListN.{length, getD, set, replicate, length-append, length-set, length-replicate, List·getD-append, List·getD-eq-default, getD-replicate}
 use lib.Seq.{getD-at, getD-set-same, getD-set-other}
 use Rattle.sheet_rules.specs.Limits.{nameLimit}
-use Rattle.sheet_rules.specs.Sheet.{Instr, calledName, Form, Sheet}
+use Rattle.sheet_rules.specs.Sheet.{Instr, calledName, Form, Sheet, formAt}
+use Rattle.type_rules.specs.Typing.{membersAt}
 use Rattle.bound_rules.specs.Strict.{bodyOf}
 use Rattle.bound_rules.specs.Amount.{amountAt, calledAmount, codeAmount, bodyAmount, largestIn, nameAmount, amountsBelow, amounts}
 use Rattle.bound_rules.specs.BoundQuestion.{amountLimit, counted}
 use Rattle.bound_rules.proofs.AmountLaws.{amounts-length}
 use Rattle.bound_rules.proofs.BoundLaws.{counted-over}
-use Rattle.bound.specs.Told.{Zeros, CutOff}
+use Rattle.bound.specs.Told.{Zeros, Passed, NameTold, CutOff}
+use Rattle.bound.proofs.PassedLaws.{passed-zero}
 
 -- two amounts are the same, or both are over the limit
 abbrev Near : ℕ → ℕ → Type 0
@@ -72,33 +74,42 @@ module _ (xs zs : List ℕ) (cut : CutOff xs zs) where
 
 -- NAME AFTER NAME
 
--- where the loop stands: the amounts of the names below n are worked out, and the others are 0
-pub record Filling (s : Sheet) (zs : List ℕ) (n : ℕ) : Type 0 where
+-- where the loop stands: the amounts of the names below n are worked out, the others are 0, and the members of names below n are passed
+pub record Filling (s : Sheet) (zs ys : List ℕ) (n : ℕ) : Type 0 where
   pub size : length zs ≡ 64
   pub within : n ≤ 64
   pub done : CutOff (amountsBelow s n) zs
+  pub passed : Passed s n ys
 
-pub filling-start : (s : Sheet) {zs : List ℕ} → Zeros zs → Filling s zs 0
-unfolding amountsBelow
-filling-start s {zs} e =
-    record {
-      size = ap length e ∙ length-replicate {A = ℕ} 64 0;
-      within = omega arith;
-      done = record { each = λ m. ap (λ (l : List ℕ). amountAt l m) e ∙ zero-at m (decLe (suc m) 64) };
-    }
+zero-at : {zs : List ℕ} → Zeros zs → (m : ℕ) → _≡_ {A = ℕ} (getD zs m 0) 0
+zero-at e m = ap (λ (l : List ℕ). getD l m 0) e ∙ go (decLe (suc m) 64)
   where
-    zero-at : (m : ℕ) → Dec (suc m ≤ 64) → getD (replicate 64 0) m 0 ≡ min (amountAt [] m) amountLimit
-    zero-at m (yes l) = getD-replicate 64 m 0 0 l
-    zero-at m (no l) = let z : length (replicate {A = ℕ} 64 0) ≤ m = omega (arith, length-replicate {A = ℕ} 64 0) in List·getD-eq-default (replicate 64 0) 0 z
+    go : Dec (suc m ≤ 64) → _≡_ {A = ℕ} (getD (replicate 64 0) m 0) 0
+    go (yes l) = getD-replicate 64 m 0 0 l
+    go (no l) = let z : length (replicate {A = ℕ} 64 0) ≤ m = omega (arith, length-replicate {A = ℕ} 64 0) in List·getD-eq-default (replicate 64 0) 0 z
 
-module _ {s : Sheet} {zs : List ℕ} {n : ℕ} (g : Filling s zs n) where
-  pub filling-next : n < 64 → {amount : ℕ} → amount ≡ min (nameAmount s zs n) amountLimit → {ys : List ℕ} → ys ≡ set zs n amount → Filling s ys (n + 1)
+zero-size : {zs : List ℕ} → Zeros zs → length zs ≡ 64
+zero-size e = ap length e ∙ length-replicate {A = ℕ} 64 0
+
+pub filling-start : (s : Sheet) {zs ys : List ℕ} → Zeros zs → Zeros ys → Filling s zs ys 0
+unfolding amountsBelow
+filling-start s e d =
+    record {
+      size = zero-size e;
+      within = omega arith;
+      done = record { each = λ m. zero-at e m };
+      passed = record { size = zero-size d; each = λ f l. zero-at d f ∙ sym (passed-zero (membersAt s ((formAt s f) .row))) };
+    }
+
+module _ {s : Sheet} {zs ys : List ℕ} {n : ℕ} (g : Filling s zs ys n) where
+  pub filling-next : n < 64 → {amount : ℕ} {ys′ : List ℕ} → NameTold s zs n ys′ amount → {zs′ : List ℕ} → zs′ ≡ set zs n amount → Filling s zs′ ys′ (n + 1)
   unfolding amountsBelow
-  filling-next l {amount} told {ys} e =
+  filling-next l {amount} {ys′} told {zs′} e =
       record {
         size = ap length e ∙ simp length-set (g .size);
         within = omega arith;
         done = record { each = λ m. ap (λ (y : List ℕ). amountAt y m) e ∙ go m (decLe m n) (decLe n m) ∙ ap (λ (k : ℕ). min (amountAt (amountsBelow s k) m) amountLimit) (sym (add-one n)) };
+        passed = subst (λ (k : ℕ). Passed s k ys′) (sym (add-one n)) (told .passed);
       }
     where
       before : List ℕ
@@ -108,7 +119,7 @@ module _ {s : Sheet} {zs : List ℕ} {n : ℕ} (g : Filling s zs n) where
       this = nameAmount s before n
 
       amount-is : amount ≡ min this amountLimit
-      amount-is = told ∙ largest-cut before zs (g .done) s n (s .forms)
+      amount-is = told .amount ∙ largest-cut before zs (g .done) s n (s .forms)
 
       go : (m : ℕ) → Dec (m ≤ n) → Dec (n ≤ m) → amountAt (set zs n amount) m ≡ min (amountAt (before ++ (this ∷ [])) m) amountLimit
       go m (yes a) (yes b) =

@@ -1,18 +1,19 @@
 -- What the functions over the table tell of calls and amounts. Stands on the rules of the bound and on the table's view.
-use Prim.Native.Nat.{ℕ, min}
+use Prim.Native.Nat.{ℕ, suc, _<_, min}
 use mathlib.Core.Path.{_≡_}
-use mathlib.Core.Bool.{Bool, false}
+use mathlib.Core.Bool.{cond}
 use mathlib.Core.List.{List, [], _∷_, map}
 use mathlib.Core.Option.{Option, none, some}
-use lib.Dec.{eqb}
-use lib.ListN.{replicate}
+use lib.Dec.{ltb}
+use lib.ListN.{length, getD, set, replicate}
 use Rattle.sheet_rules.specs.declared.Member.{Member}
 use Rattle.sheet_rules.specs.declared.Member.the-variants.{Method, Field}
 use Rattle.sheet_rules.specs.declared.Reason.the-variants.{CircularCall}
+use Rattle.sheet_rules.specs.RowLines.{nameOf}
 use Rattle.sheet_rules.specs.Sheet.{Instr, calledName, Part, init, body, Sheet, formAt}
 use Rattle.type_rules.specs.Typing.{Fault, unless, membersAt, partsFaults, formsFaults}
-use Rattle.bound_rules.specs.Strict.{callsBelow, strictLines}
-use Rattle.bound_rules.specs.Amount.{amountAt}
+use Rattle.bound_rules.specs.Strict.{callsBelow, strictLines, bodyOf}
+use Rattle.bound_rules.specs.Amount.{amountAt, bodyAmount, nameAmount}
 use Rattle.bound_rules.specs.BoundQuestion.{amountLimit}
 use Rattle.bound.specs.declared.Called.{Called}
 
@@ -39,17 +40,36 @@ partsCalls s f = partsFaults strictLines s f (formAt s f) (membersAt s ((formAt 
 abbrev pub formsCalls : Sheet → List Fault
 formsCalls s = formsFaults strictLines s 0 (s .forms)
 
--- a member is the method of name n
-abbrev pub isMethod : Member → ℕ → Bool
-isMethod (Method m a r) n = eqb m n
-isMethod (Field m r) n = false
-
 -- a part's instructions, if it is a body
 abbrev pub codeOf : Part → Option (List Instr)
 codeOf (body is) = some is
 codeOf (init k) = none
 
--- the amounts before any name's is worked out
+-- how many of some members, the first of them, have names below n
+unfoldable pub passedBelow : List Member → ℕ → ℕ
+passedBelow [] n = 0
+passedBelow (m ∷ ms) n = cond (ltb (nameOf m) n) (suc (passedBelow ms n)) 0
+
+-- how many members of form f's row have names below n, which come first, since names ascend
+abbrev pub membersBelow : Sheet → ℕ → ℕ → ℕ
+membersBelow s f n = passedBelow (membersAt s ((formAt s f) .row)) n
+
+-- these numbers, of each form
+pub record Passed (s : Sheet) (n : ℕ) (ys : List ℕ) : Type 0 where
+  pub size : length ys ≡ 64
+  pub each : (f : ℕ) → f < length (s .forms) → getD ys f 0 ≡ membersBelow s f n
+
+-- the amount of form f's body of name n, cut off at the limit, by the amounts of names; and the member of that name is passed
+pub record FormTold (s : Sheet) (xs : List ℕ) (f n : ℕ) (ys ys′ : List ℕ) (r : ℕ) : Type 0 where
+  pub amount : r ≡ min (bodyAmount xs (bodyOf s (formAt s f) n)) amountLimit
+  pub passed : ys′ ≡ set ys f (membersBelow s f (suc n))
+
+-- the same of name n, over all forms
+pub record NameTold (s : Sheet) (xs : List ℕ) (n : ℕ) (ys′ : List ℕ) (r : ℕ) : Type 0 where
+  pub amount : r ≡ min (nameAmount s xs n) amountLimit
+  pub passed : Passed s (suc n) ys′
+
+-- 64 numbers, all of them 0
 abbrev pub Zeros : List ℕ → Type 0
 Zeros zs = zs ≡ replicate 64 0
 

@@ -2,19 +2,17 @@
 // own, so that whoever calls a name that was cut off is over the limit, as it is by the name's own amount.
 ghost use mathlib.Core.Path.{_≡_};
 ghost use Prim.Native.Nat.{_≤_, _<_, min, max};
-ghost use lib.ListN.{length};
-ghost use Rattle.sheet_rules.specs.Sheet.{calledName, formAt};
+ghost use lib.ListN.{length, getD};
+ghost use Rattle.sheet_rules.specs.Sheet.{calledName};
 ghost use Rattle.table.specs.Layout.{workSize};
 ghost use Rattle.table.specs.Told.{partTold};
 ghost use Rattle.table.specs.View.{instrIn, instrsIn, sheetIn};
 ghost use Rattle.table.specs.Whole.{Whole};
-ghost use Rattle.bound_rules.specs.Strict.{bodyOf};
-ghost use Rattle.bound_rules.specs.Amount.{amountAt, calledAmount, codeAmount, bodyAmount, nameAmount, mainAmount, amounts as allAmounts};
+ghost use Rattle.bound_rules.specs.Amount.{amountAt, calledAmount, codeAmount, bodyAmount, mainAmount, amounts as allAmounts};
 ghost use Rattle.bound_rules.specs.BoundQuestion.{amountLimit, counted};
-ghost use Rattle.bound.specs.Told.{isMethod, codeOf, CutOff, Zeros};
+ghost use Rattle.bound.specs.Told.{codeOf, membersBelow, Passed, FormTold, NameTold, CutOff, Zeros};
 ghost use Rattle.form_typing.specs.Told.{PlaceSmall};
 use crate::Called;
-use sheet_rules::Member;
 use table::forms::PartPlace;
 use table::rows::wide;
 
@@ -78,35 +76,24 @@ fn part_amount(work: &[u16], amounts: &[u32], place: PartPlace) -> u32
     }
 }
 
-// A member is the method of a name.
-fn is_method(m: Member, name: usize) -> bool
-    ensures { λ r. ⌜ r ≡ isMethod m name ⌝ }
-{
-    match m {
-        Member::Method {
-            name: n,
-            argument: _,
-            result: _,
-        } => wide(n) == name,
-        Member::Field { .. } => false,
-    }
-}
-
-// The amount of form f's body of a name, cut off at the limit; 0 if it has none.
-fn form_amount(work: &[u16], amounts: &[u32], f: usize, name: usize) -> u32
-    requires { ⌜ Whole (now work) × (f < length ((sheetIn (now work)) .forms)) ⌝ }
-    ensures { λ r. ⌜ r ≡ min (bodyAmount (now (amounts .entry)) (bodyOf (sheetIn (now (work .entry))) (formAt (sheetIn (now (work .entry))) f) name)) amountLimit ⌝ }
+// The amount of form f's body of a name, cut off at the limit; 0 if it has none. `next` has for each form the number of its members with
+// lower names; names ascend, so only the member after these can have the name, and then it is passed.
+fn form_amount(work: &[u16], amounts: &[u32], next: &mut [u16], f: usize, name: usize) -> u32
+    requires { ⌜ Whole (now work) × (f < length ((sheetIn (now work)) .forms)) × (length (now next) ≡ 64) × (getD (now next) f 0 ≡ membersBelow (sheetIn (now work)) f name) ⌝ }
+    ensures { λ r. ⌜ FormTold (sheetIn (now (work .entry))) (now (amounts .entry)) f name (now (next .entry)) (now (next .exit)) r ⌝ }
 {
     let row = wide(table::forms::form_row(work, f));
     let count = table::rows::members_at(work, row);
-    let mut j: usize = 0;
-    while j < count {
-        if is_method(table::rows::member(work, row, j), name) {
-            return part_amount(work, amounts, table::forms::part(work, f, j));
-        }
-        j = j + 1;
+    let passed = next[f];
+    let j = wide(passed);
+    if count <= j {
+        return 0;
     }
-    0
+    if wide(table::rows::member_name(work, row, j)) != name {
+        return 0;
+    }
+    next[f] = passed + 1;
+    part_amount(work, amounts, table::forms::part(work, f, j))
 }
 
 // The larger of two numbers.
@@ -119,29 +106,29 @@ fn larger(a: u32, b: u32) -> u32
     a
 }
 
-// The amount of a name, by those of the others, cut off at the limit: the largest over its bodies.
-fn name_amount(work: &[u16], amounts: &[u32], name: usize) -> u32
-    requires { ⌜ Whole (now work) ⌝ }
-    ensures { λ r. ⌜ r ≡ min (nameAmount (sheetIn (now (work .entry))) (now (amounts .entry)) name) amountLimit ⌝ }
+// The amount of a name, by those of the others, cut off at the limit: the largest over its bodies. The members of the name are passed.
+fn name_amount(work: &[u16], amounts: &[u32], next: &mut [u16], name: usize) -> u32
+    requires { ⌜ Whole (now work) × Passed (sheetIn (now work)) name (now next) ⌝ }
+    ensures { λ r. ⌜ NameTold (sheetIn (now (work .entry))) (now (amounts .entry)) name (now (next .exit)) r ⌝ }
 {
     let count = table::forms::form_count(work);
     let mut largest: u32 = 0;
     let mut f: usize = 0;
     while f < count {
-        largest = larger(largest, form_amount(work, amounts, f, name));
+        largest = larger(largest, form_amount(work, amounts, next, f, name));
         f = f + 1;
     }
     largest
 }
 
 // The amounts of all names, cut off at the limit, in ascending order: in a sheet of the stricter kind a body calls lower names alone.
-fn fill_amounts(work: &[u16], amounts: &mut [u32])
-    requires { ⌜ Whole (now work) × Zeros (now amounts) ⌝ }
+fn fill_amounts(work: &[u16], amounts: &mut [u32], next: &mut [u16])
+    requires { ⌜ Whole (now work) × Zeros (now amounts) × Zeros (now next) ⌝ }
     ensures { λ r. ⌜ CutOff (allAmounts (sheetIn (now (work .entry)))) (now (amounts .exit)) ⌝ }
 {
     let mut name: usize = 0;
     while name < 64 {
-        let amount = name_amount(work, amounts, name);
+        let amount = name_amount(work, amounts, next, name);
         amounts[name] = amount;
         name = name + 1;
     }
@@ -153,7 +140,8 @@ pub fn main_amount(work: &[u16]) -> u64
     ensures { λ r. ⌜ counted r ≡ counted (mainAmount (sheetIn (now (work .entry)))) ⌝ }
 {
     let mut amounts: [u32; 64] = [0; 64];
-    fill_amounts(work, &mut amounts[..]);
+    let mut next: [u16; 64] = [0; 64];
+    fill_amounts(work, &mut amounts[..], &mut next[..]);
     let start = table::instrs::main_start(work);
     let count = table::instrs::main_count(work);
     code_amount(work, &amounts[..], start, count)

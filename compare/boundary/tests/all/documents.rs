@@ -8,11 +8,12 @@ use std::path::{Path, PathBuf};
 const ROOT: &str = concat!(env!("CARGO_MANIFEST_DIR"), "/../..");
 
 /// The crates of rules, by the letters that RULES.md has for them.
-const RULES: [(&str, &str); 4] = [
+const RULES: [(&str, &str); 5] = [
     ("S", "sheet_rules"),
     ("T", "type_rules"),
     ("M", "machine_rules"),
     ("A", "authority_rules"),
+    ("B", "bound_rules"),
 ];
 
 /// All files below a folder with one of the endings.
@@ -189,10 +190,10 @@ fn every_edit_is_named_and_every_named_edit_is_there() {
         there.insert((krate.into(), label.into()), false);
     }
     for line in text.lines().filter(|line| line.starts_with("| ")) {
-        let cell = line.trim_end_matches(" |").rsplit(" | ").next();
+        let cell = line.trim_end_matches('|').rsplit(" | ").next();
         let mut crates: Vec<&str> = Vec::new();
         let mut waiting: Vec<&str> = Vec::new();
-        for item in cell.unwrap_or("").split(", ") {
+        for item in cell.unwrap_or("").trim().split(", ") {
             let (first, label) = item.split_once(' ').unwrap_or((item, ""));
             let named = RULES.iter().find(|(letter, _)| *letter == first);
             let krate = named.map_or(first, |(_, krate)| krate);
@@ -239,7 +240,7 @@ fn reached(name: &str) -> BTreeSet<String> {
 
 #[test]
 fn typing_and_machine_stand_on_the_table_and_never_see_the_bytes() {
-    for name in ["typing", "machine", "authority"] {
+    for name in ["typing", "machine", "authority", "bound"] {
         let crates = reached(name);
         assert!(crates.contains("table"), "{name}");
         for krate in crates {
