@@ -1,7 +1,7 @@
 /*
  * Lexondar: which add-in of a dough-room terminal may touch what.
  *
- * Seven questions about a sheet. Each takes the sheet's bytes and a work
+ * Eight questions about a sheet. Each takes the sheet's bytes and a work
  * buffer, keeps neither, allocates nothing, and ends. All that is said here
  * of answers and buffers is proved, for every text, every number and every
  * buffer. Link with liblexondar.a (x86-64, System V ABI), which needs nothing
@@ -59,9 +59,13 @@ enum lexondar_refusal {
     LEXONDAR_NO_SUCH_MEMBER = 9,   /* no such method or field; get or put in main */
     LEXONDAR_MISFIT = 10,          /* a value does not fit, or a new has not its kept values;
                                       lack says what is lacking */
-    LEXONDAR_NO_HOLDER = 11        /* after the run: no such object, a pure one,
+    LEXONDAR_NO_HOLDER = 11,       /* after the run: no such object, a pure one,
                                       or a number over 256; or over 16 listed;
                                       line 0 */
+    LEXONDAR_CIRCULAR_CALL = 12,   /* after typing: a body calls its method's own
+                                      name or a higher one */
+    LEXONDAR_BEYOND_COUNT = 13     /* after that: the most steps are over
+                                      4,294,967,295; line 0 */
 };
 
 /*
@@ -210,6 +214,28 @@ struct lexondar_form_result {
 
 struct lexondar_form_result lexondar_form(const uint8_t *text, size_t text_len, size_t form,
                                           uint16_t *work, size_t work_len);
+
+/*
+ * The most steps that a run of an accepted sheet can need, if the sheet is of
+ * the stricter kind: a body of method N calls only methods with names below N,
+ * and main calls any. A body's amount is its instructions, one for its return,
+ * and for each of its `call` lines the amount of the called name; a name's is
+ * the largest over its bodies in all forms, 0 if it has none; steps is main's,
+ * which has no return. A run with at least that budget does not end as spent;
+ * full store and full stack remain possible. A sheet not of this kind is
+ * refusal 12, at its first `call` line against the rule. Refusals 1 to 10, 12
+ * and 13.
+ */
+struct lexondar_bound_result {
+    uint32_t refusal;
+    uint32_t line;
+    uint32_t lack;
+    uint32_t name;
+    uint32_t steps;
+};
+
+struct lexondar_bound_result lexondar_bound(const uint8_t *text, size_t text_len, uint16_t *work,
+                                            size_t work_len);
 
 #ifdef __cplusplus
 }

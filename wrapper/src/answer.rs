@@ -103,10 +103,12 @@ pub enum Reason {
     NoSuchMember,
     Misfit(Lack),
     NoHolder,
+    CircularCall,
+    BeyondCount,
 }
 
 impl Reason {
-    /// From the library's numbers.
+    /// From the library's numbers; there is none over 13.
     fn of(number: u32, lack: u32, name: u32) -> Reason {
         match number {
             1 => Reason::BufferTooShort,
@@ -119,7 +121,9 @@ impl Reason {
             8 => Reason::ImpureForm,
             9 => Reason::NoSuchMember,
             10 => Reason::Misfit(Lack::of(lack, name)),
-            _ => Reason::NoHolder,
+            11 => Reason::NoHolder,
+            12 => Reason::CircularCall,
+            _ => Reason::BeyondCount,
         }
     }
 
@@ -138,6 +142,8 @@ impl Reason {
             Reason::NoSuchMember => (9, "there is no such method or field"),
             Reason::Misfit(_) => (10, "a value does not fit"),
             Reason::NoHolder => (11, "there is no such holder, or over 16 are listed"),
+            Reason::CircularCall => (12, "a body calls its method's own name or a higher one"),
+            Reason::BeyondCount => (13, "the most steps are over 4,294,967,295"),
         }
     }
 

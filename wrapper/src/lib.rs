@@ -5,6 +5,7 @@
 
 pub mod answer;
 pub mod raw;
+mod results;
 
 pub use answer::{Fit, Lack, Outcome, Reason, Refusal, Run};
 
@@ -65,6 +66,15 @@ pub fn run(text: &[u8], budget: u32, work: &mut Work) -> Result<Run, Refusal> {
         given.value,
         given.objects,
     ))
+}
+
+/// The most steps that a run of the text's sheet can need, if its bodies call
+/// only methods with names below their own. A run with at least that budget is
+/// not spent; a full store or a full stack may still end it.
+pub fn bound(text: &[u8], work: &mut Work) -> Result<u32, Refusal> {
+    let given = raw::bound(text, &mut work.0[..]);
+    Refusal::check(&given)?;
+    Ok(given.steps)
 }
 
 /// Room for the authority of a holder, or of a group of them.

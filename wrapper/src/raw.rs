@@ -1,5 +1,10 @@
 //! The questions as a terminal calls them: numbers, and buffers of any length.
 
+pub use crate::results::{
+    AuthorityResult, Begins, BoundResult, FitResult, FormResult, Four, ReportResult, RunResult,
+    VerdictResult,
+};
+
 /// The numbers of the work buffer that are used.
 pub const WORK: usize = 32_768;
 
@@ -12,107 +17,6 @@ pub const GROUP: usize = 16;
 /// The places of the result buffer that a report asks for: two and 256 for
 /// main and for each of 256 objects.
 pub const REPORT: usize = 66_306;
-
-/// The four numbers that every result begins with: a refusal's number or 0,
-/// its line or 0, what is lacking (0 nothing, 1 count, 2 kind, 3 a member), and
-/// the member's name or 0.
-pub type Four = [u32; 4];
-
-/// The fit question's answer: the four numbers, and 1 for yes; with 0 the four
-/// say what is lacking.
-#[repr(C)]
-#[derive(Clone, Copy, Debug, PartialEq, Eq)]
-pub struct FitResult {
-    pub refusal: u32,
-    pub line: u32,
-    pub lack: u32,
-    pub name: u32,
-    pub fits: u32,
-}
-
-/// A verdict: the four numbers.
-#[repr(C)]
-#[derive(Clone, Copy, Debug, PartialEq, Eq)]
-pub struct VerdictResult {
-    pub refusal: u32,
-    pub line: u32,
-    pub lack: u32,
-    pub name: u32,
-}
-
-/// A run's answer: the four numbers; of an accepted sheet the outcome, the
-/// steps taken, the value or 65,535, and the number of objects, of a refused
-/// one 0.
-#[repr(C)]
-#[derive(Clone, Copy, Debug, PartialEq, Eq)]
-pub struct RunResult {
-    pub refusal: u32,
-    pub line: u32,
-    pub lack: u32,
-    pub name: u32,
-    pub outcome: u32,
-    pub steps: u32,
-    pub value: u32,
-    pub objects: u32,
-}
-
-/// The authority question's answer: the four numbers, and how many numbers
-/// were written, of a refused one 0.
-#[repr(C)]
-#[derive(Clone, Copy, Debug, PartialEq, Eq)]
-pub struct AuthorityResult {
-    pub refusal: u32,
-    pub line: u32,
-    pub lack: u32,
-    pub name: u32,
-    pub count: u32,
-}
-
-/// A report: a run's answer, and how many numbers the holders' entries take,
-/// of a refused sheet 0.
-#[repr(C)]
-#[derive(Clone, Copy, Debug, PartialEq, Eq)]
-pub struct ReportResult {
-    pub refusal: u32,
-    pub line: u32,
-    pub lack: u32,
-    pub name: u32,
-    pub outcome: u32,
-    pub steps: u32,
-    pub value: u32,
-    pub objects: u32,
-    pub count: u32,
-}
-
-/// The place of a form's lines: the four numbers, where they begin in the text
-/// and how many bytes they have, of a refused one 0.
-#[repr(C)]
-#[derive(Clone, Copy, Debug, PartialEq, Eq)]
-pub struct FormResult {
-    pub refusal: u32,
-    pub line: u32,
-    pub lack: u32,
-    pub name: u32,
-    pub start: usize,
-    pub length: usize,
-}
-
-/// A result, by the four numbers that it begins with.
-pub trait Begins {
-    fn four(&self) -> Four;
-}
-
-macro_rules! begin_alike {
-    ($($result:ty),*) => {
-        $(impl Begins for $result {
-            fn four(&self) -> Four {
-                [self.refusal, self.line, self.lack, self.name]
-            }
-        })*
-    };
-}
-
-begin_alike! { FitResult, VerdictResult, RunResult, AuthorityResult, ReportResult, FormResult }
 
 extern "C" {
     fn lexondar_fit(
@@ -173,6 +77,12 @@ extern "C" {
         work: *mut u16,
         work_len: usize,
     ) -> FormResult;
+    fn lexondar_bound(
+        text: *const u8,
+        text_len: usize,
+        work: *mut u16,
+        work_len: usize,
+    ) -> BoundResult;
 }
 
 /// Whether row a of the text's sheet fits row b.
@@ -290,4 +200,11 @@ pub fn form(text: &[u8], form: usize, work: &mut [u16]) -> FormResult {
             work.len(),
         )
     }
+}
+
+/// The most steps that a run of the text's sheet can need, if it is sure to
+/// finish.
+pub fn bound(text: &[u8], work: &mut [u16]) -> BoundResult {
+    // SAFETY: as above.
+    unsafe { lexondar_bound(text.as_ptr(), text.len(), work.as_mut_ptr(), work.len()) }
 }

@@ -1,5 +1,5 @@
 /*
- * Asks all seven questions about each sheet of a file, with buffers that are
+ * Asks all eight questions about each sheet of a file, with buffers that are
  * exactly as long as asked and were never written, so that a memory checker
  * sees every read of what nobody wrote and every step outside. The file has
  * each sheet's length in four bytes, low byte first, and then the sheet.
@@ -115,6 +115,15 @@ static void judge(const uint8_t *text, size_t length) {
     free(work);
 }
 
+/* The most steps that the sheet can need, in such a buffer too. */
+static void ask_bound(const uint8_t *text, size_t length) {
+    uint16_t *work = room(LEXONDAR_WORK * sizeof *work);
+    struct lexondar_bound_result bound = lexondar_bound(text, length, work, LEXONDAR_WORK);
+    add_fields(5, (uint32_t[]){bound.refusal, bound.line, bound.lack, bound.name, bound.steps});
+    add_work(work);
+    free(work);
+}
+
 int main(int count, char **words) {
     FILE *file = count == 2 ? fopen(words[1], "rb") : NULL;
     if (file == NULL)
@@ -126,6 +135,7 @@ int main(int count, char **words) {
         if (fread(text, 1, length, file) != length)
             return 2;
         judge(text, length);
+        ask_bound(text, length);
         ask(text, length, 0);
         ask(text, length, 300);
         free(text);

@@ -1,14 +1,14 @@
 //! A small program over the library: a sheet on standard input, the answer to
 //! one question on standard output, in the second program's words.
 
-use boundary::{authority, fit, form, group, run, verdict};
+use boundary::{authority, bound, fit, form, group, run, verdict};
 use boundary::{Begins, RunResult, AUTHORITY, WORK};
 use std::io::Read;
 use std::process::ExitCode;
 
 const USAGE: &str = "usage: boundary verdict | boundary fit A B | boundary form F \
                      | boundary run BUDGET | boundary authority BUDGET HOLDER \
-                     | boundary group BUDGET HOLDER..  \
+                     | boundary group BUDGET HOLDER.. | boundary bound  \
                      (a sheet on standard input)";
 
 fn main() -> ExitCode {
@@ -55,6 +55,13 @@ fn answer(words: &[&str], text: &[u8]) -> Option<String> {
             let given = run(text, budget.parse().ok()?, &mut work);
             Some(match given.refusal {
                 0 => run_lines(given),
+                _ => refused(&given),
+            })
+        }
+        ["bound"] => {
+            let given = bound(text, &mut work);
+            Some(match given.refusal {
+                0 => format!("bound={}\n", given.steps),
                 _ => refused(&given),
             })
         }

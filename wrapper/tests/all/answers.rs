@@ -1,10 +1,12 @@
 //! The wrapper on the paper's sheet, and on the example of each refusal.
 
-use lexondar::{authority, fit, form, group, report, run, verdict};
+use lexondar::{authority, bound, fit, form, group, report, run, verdict};
 use lexondar::{Fit, Held, Holders, Lack, Outcome, Reason, Refusal, Run, Work, MAIN};
 
 const CLERK: &[u8] = include_bytes!("../../../examples/clerk.sheet");
 const MAKERS: &[u8] = include_bytes!("../../../examples/makers.sheet");
+const SURE: &[u8] = include_bytes!("../../../examples/sure.sheet");
+const CIRCULAR: &[u8] = include_bytes!("../../../examples/circular.sheet");
 
 #[test]
 fn the_clerk_is_accepted_and_runs() {
@@ -80,7 +82,22 @@ fn the_clerk_s_forms_are_parts_of_the_caller_s_text() {
     }
 }
 
-fn refused(reason: Reason, line: u32) -> Result<(), Refusal> {
+#[test]
+fn a_sheet_that_is_sure_to_finish_is_not_spent() {
+    let mut work = Work::new();
+    assert_eq!(bound(CLERK, &mut work), Ok(8));
+    let steps = bound(SURE, &mut work).expect("lower names only");
+    assert_eq!(steps, 36);
+    let done = Run {
+        outcome: Outcome::Done { value: 7 },
+        steps: 26,
+        objects: 8,
+    };
+    assert_eq!(run(SURE, steps, &mut work), Ok(done));
+    assert_eq!(run(CIRCULAR, steps, &mut work), Ok(done));
+}
+
+fn refused<T>(reason: Reason, line: u32) -> Result<T, Refusal> {
     Err(Refusal { reason, line })
 }
 
@@ -103,10 +120,56 @@ fn each_refusal_has_its_name() {
         let root = env!("CARGO_MANIFEST_DIR");
         let text = std::fs::read(format!("{root}/../examples/{name}.sheet")).expect("an example");
         assert_eq!(verdict(&text, &mut work), refused(reason, line), "{name}");
+        assert_eq!(bound(&text, &mut work), refused(reason, line), "{name}");
+        let number = format!("refused-{}-", reason.number());
+        assert!(name.starts_with(&number), "{name}");
     }
     let long = vec![b'\n'; 65_536];
     assert_eq!(verdict(&long, &mut work), refused(Reason::TextTooLong, 0));
     assert_eq!(verdict(b"", &mut work), refused(Reason::Malformed, 1));
+}
+
+#[test]
+fn a_circular_call_is_refused_with_its_line() {
+    let mut work = Work::new();
+    let given = bound(CIRCULAR, &mut work);
+    assert_eq!(given, refused(Reason::CircularCall, 21));
+    let refusal = given.expect_err("its own name");
+    assert_eq!(refusal.reason.number(), 12);
+    let words = "refusal 12 at line 21: a body calls its method's own name or a higher one";
+    assert_eq!(refusal.to_string(), words);
+    // What the verdict refuses is refused alike.
+    let torn = &CIRCULAR[..CIRCULAR.len() - 1];
+    assert_eq!(bound(torn, &mut work), refused(Reason::Malformed, 35));
+    assert_eq!(verdict(torn, &mut work), refused(Reason::Malformed, 35));
+}
+
+/// A form with names 0 to 7: name 0 copies 31 times, and each other one calls
+/// the name below as often. Main calls the highest.
+fn beyond() -> String {
+    let mut text = String::from("types=2\ntype=1,0\ntype=1,8\n");
+    for name in 0..8 {
+        text += &format!("def={name},0,0\n");
+    }
+    text += &format!("forms=1\nform=1,0\nbody=31\n{}", "copy=1\n".repeat(31));
+    for name in 0..7 {
+        let call = format!("call=0,{name},1\n");
+        text += &format!("body=31\n{}", call.repeat(31));
+    }
+    text + "main=2\nnew=0\ncall=0,7,0\n"
+}
+
+#[test]
+fn more_steps_than_32_bits_have_are_refused() {
+    let mut work = Work::new();
+    let text = beyond();
+    assert_eq!(verdict(text.as_bytes(), &mut work), Ok(()));
+    let given = bound(text.as_bytes(), &mut work);
+    assert_eq!(given, refused(Reason::BeyondCount, 0));
+    let refusal = given.expect_err("31 times 31, and so on");
+    assert_eq!(refusal.reason.number(), 13);
+    let words = "refusal 13: the most steps are over 4,294,967,295";
+    assert_eq!(refusal.to_string(), words);
 }
 
 /// Rows 0 pure; 1 resource, method 4; 2 resource, field 4 and method 5.

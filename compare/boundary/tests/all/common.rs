@@ -9,6 +9,11 @@ pub const CLERK: &[u8] = include_bytes!("../../../../examples/clerk.sheet");
 /// L, a method that calls itself for ever.
 pub const LOOP: &[u8] = include_bytes!("../../../../examples/stack-full.sheet");
 
+/// A clerk that doses by a scale and a valve, which is sure to finish, and the
+/// same with one call changed, which is not.
+pub const SURE: &[u8] = include_bytes!("../../../../examples/sure.sheet");
+pub const CIRCULAR: &[u8] = include_bytes!("../../../../examples/circular.sheet");
+
 /// Two makers that keep the same valve, each with a device of its own.
 pub const MAKERS: &[u8] = include_bytes!("../../../../examples/makers.sheet");
 

@@ -2,6 +2,7 @@
 
 mod authority;
 mod authority_edges;
+mod bound;
 mod common;
 mod documents;
 mod fit;

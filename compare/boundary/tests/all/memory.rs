@@ -2,7 +2,7 @@
 //! gets, and a memory checker sees no step outside a buffer and no answer that
 //! rests on what was never written.
 
-use boundary::{authority, fit, form, group, report, run, verdict};
+use boundary::{authority, bound, fit, form, group, report, run, verdict};
 use boundary::{Begins, AUTHORITY, GROUP, REPORT, WORK};
 use std::path::{Path, PathBuf};
 use std::process::Command;
@@ -28,6 +28,7 @@ fn compiled(name: &str) -> PathBuf {
 fn sheet(index: u64) -> Vec<u8> {
     match index % 4 {
         0 => generator::mill(93, index),
+        1 => generator::strict(93, index / 4),
         _ => generator::sheet(93, index),
     }
 }
@@ -86,11 +87,13 @@ impl Sum {
         }
     }
 
-    /// What `judge` and `ask` add, in their order.
+    /// What `judge`, `ask_bound` and `ask` add, in their order.
     fn add_sheet(&mut self, text: &[u8]) {
         let (mut work, mut held, mut all) = (vec![7; WORK], vec![7; AUTHORITY], vec![7; REPORT]);
         let g = verdict(text, &mut work);
         self.add_fields(&g, &[]);
+        let g = bound(text, &mut work);
+        self.add_fields(&g, &[g.steps]);
         for budget in [0, 300] {
             let g = fit(text, 1, 0, &mut work);
             self.add_fields(&g, &[g.fits]);

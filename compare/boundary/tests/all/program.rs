@@ -1,7 +1,9 @@
 //! The small program over the library, on sheets of the paper.
 
-use crate::common::{CLERK, MAKERS};
+use crate::common::{CLERK, LOOP, MAKERS};
+use std::fs;
 use std::io::Write;
+use std::path::Path;
 use std::process::{Command, Stdio};
 
 fn run(words: &[&str], sheet: &[u8]) -> String {
@@ -35,6 +37,7 @@ fn a_sheet_without_its_last_byte_is_refused_at_its_last_line() {
     assert_eq!(run(&["verdict"], short), "verdict=3\nline=20\n");
     assert_eq!(run(&["fit", "0", "0"], short), "verdict=3\nline=20\n");
     assert_eq!(run(&["run", "8"], short), "verdict=3\nline=20\n");
+    assert_eq!(run(&["bound"], short), "verdict=3\nline=20\n");
     assert_eq!(run(&["verdict"], b""), "verdict=3\nline=1\n");
 }
 
@@ -110,6 +113,35 @@ fn forms_of_the_clerk() {
     }
     let short = &CLERK[..CLERK.len() - 1];
     assert_eq!(run(&["form", "0"], short), "verdict=3\nline=20\n");
+}
+
+#[test]
+fn the_most_steps_of_the_clerk_and_of_a_loop() {
+    assert_eq!(run(&["bound"], CLERK), "bound=8\n");
+    assert_eq!(run(&["bound"], LOOP), "verdict=12\nline=9\n");
+    assert_eq!(run(&["bound", "8"], CLERK), "");
+}
+
+/// Two examples have the answer to this question stored beside them.
+#[test]
+fn the_most_steps_of_examples_are_stored() {
+    let folder = Path::new(env!("CARGO_MANIFEST_DIR")).join("../../examples");
+    let mut answers = Vec::new();
+    for file in folder.read_dir().expect("the examples") {
+        let path = file.expect("an example").path();
+        if path.extension().is_some_and(|kind| kind == "bound") {
+            let name = path.display().to_string();
+            let stored = fs::read_to_string(&path).expect("stored lines");
+            let text = fs::read(path.with_extension("sheet")).expect("a sheet");
+            assert_eq!(run(&["bound"], &text), stored, "{name}");
+            let second = second::bound(&text).map(|steps| format!("bound={steps}\n"));
+            let second = second.unwrap_or_else(second::question_lines);
+            assert_eq!(second, stored, "{name}");
+            answers.push(stored);
+        }
+    }
+    answers.sort();
+    assert_eq!(answers, ["bound=36\n", "verdict=12\nline=21\n"]);
 }
 
 #[test]

@@ -1,13 +1,14 @@
-//! All seven questions against the second program on the same sheets, with
+//! All eight questions against the second program on the same sheets, with
 //! buffers that are one number too short, exactly as long as asked, or longer.
 
+use crate::bound::most_of;
 use crate::common::{budget_for, draw, is_left_clean, is_written, noise};
 use crate::form::stretch_of;
 use crate::refused::{
-    answer_of, fit_of, form_of, held_of, report_of, run_of, verdict_of, NONE, SHORT,
+    answer_of, bound_of, fit_of, form_of, held_of, report_of, run_of, verdict_of, NONE, SHORT,
 };
 use boundary::{
-    authority, entries, fit, form, four, group, report, run, verdict, AuthorityResult,
+    authority, bound, entries, fit, form, four, group, report, run, verdict, AuthorityResult,
     ReportResult, RunResult, AUTHORITY, REPORT, WORK,
 };
 use second::machine::Machine;
@@ -97,6 +98,16 @@ impl Case<'_> {
         self.ask((20, 0), (wanted, &[]), short, seen, |work, _| {
             verdict(self.text, work)
         });
+    }
+
+    /// The refusal's number, 0 where there is an answer.
+    fn ask_bound(&self, seen: &mut Lengths) -> u32 {
+        let wanted = most_of(self.text);
+        let asked = (80, 0);
+        self.ask(asked, (wanted, &[]), bound_of(SHORT), seen, |work, _| {
+            bound(self.text, work)
+        });
+        wanted.refusal
     }
 
     /// Run, authority, group and report of a text that is refused.
@@ -205,9 +216,9 @@ fn held_like(held: &Result<Vec<u16>, Refusal>) -> AuthorityResult {
 }
 
 /// Every second sheet from one on; how many were accepted, how many lists
-/// were answered, and the lengths.
-fn compare_half(first: u64, count: u64, noise: &[u16]) -> ([u32; 2], Lengths) {
-    let (mut accepted, mut seen) = ([0; 2], [0; 3]);
+/// were answered, how many were sure to finish, and the lengths.
+fn compare_half(first: u64, count: u64, noise: &[u16]) -> ([u32; 3], Lengths) {
+    let (mut accepted, mut seen) = ([0; 3], [0; 3]);
     for seed in (first..count).step_by(2) {
         let text = generator::sheet(91, seed);
         let text = &text[..];
@@ -215,6 +226,7 @@ fn compare_half(first: u64, count: u64, noise: &[u16]) -> ([u32; 2], Lengths) {
         case.ask_fit(&mut seen);
         case.ask_form(&mut seen);
         case.ask_verdict(&mut seen);
+        accepted[2] += u32::from(case.ask_bound(&mut seen) == 0);
         match second::verdict(text) {
             Ok(()) => {
                 accepted[0] += 1;
@@ -234,10 +246,12 @@ fn every_question_agrees_on_50000_sheets() {
         let even = compare_half(0, 50_000, &numbers);
         (even, odd.join().expect("the odd ones agree"))
     });
-    let [accepted, lists] = [0, 1].map(|kind| even.0[kind] + odd.0[kind]);
+    let [accepted, lists, sure] = [0, 1, 2].map(|kind| even.0[kind] + odd.0[kind]);
     assert!(accepted > 15_000, "{accepted} accepted");
     assert!(lists > 5_000, "{lists} lists answered");
     assert!(accepted - lists > 5_000, "{lists} lists of {accepted}");
+    assert!(sure > 5_000, "{sure} sure to finish");
+    assert!(accepted - sure > 5_000, "{sure} sure of {accepted}");
     for (kind, (a, b)) in even.1.iter().zip(odd.1).enumerate() {
         assert!(a + b > 30_000, "length {kind} met {} times", a + b);
     }

@@ -2,7 +2,8 @@
 //! result begins with.
 
 use boundary::{lacking, Four};
-use boundary::{AuthorityResult, FitResult, FormResult, ReportResult, RunResult, VerdictResult};
+use boundary::{AuthorityResult, BoundResult, FitResult, FormResult};
+use boundary::{ReportResult, RunResult, VerdictResult};
 use second::FitAnswer;
 
 /// Nothing is refused and nothing is lacking.
@@ -84,5 +85,15 @@ pub fn form_of([refusal, line, lack, name]: Four) -> FormResult {
         name,
         start: 0,
         length: 0,
+    }
+}
+
+pub fn bound_of([refusal, line, lack, name]: Four) -> BoundResult {
+    BoundResult {
+        refusal,
+        line,
+        lack,
+        name,
+        steps: 0,
     }
 }

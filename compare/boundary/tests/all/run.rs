@@ -10,7 +10,7 @@ use second::{Outcome, Refusal, RunAnswer, Sheet};
 /// gets no larger budget.
 const LONG: u32 = 100_000;
 
-fn wanted(answer: Result<RunAnswer, Refusal>) -> RunResult {
+pub fn wanted(answer: Result<RunAnswer, Refusal>) -> RunResult {
     match answer {
         Ok(run) => RunResult {
             outcome: run.outcome as u32,
