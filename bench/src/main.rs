@@ -3,6 +3,7 @@
 
 mod agree;
 mod answer;
+mod bounds;
 mod calls;
 mod counts;
 mod fits;
@@ -32,6 +33,7 @@ fn main() {
     }
     calls::table();
     forms::table();
+    bounds::table();
     fits::table();
     holders::table();
     agree::check();

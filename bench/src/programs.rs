@@ -34,11 +34,12 @@ pub enum Question {
     Run(u32),
     Report(u32),
     Group(u32, u32),
+    Bound,
 }
 
 /// The numbers that every result begins with; then 1 for yes, or the outcome,
-/// steps, value and number of objects; and how many numbers a report or a group
-/// has, or bytes a form's lines.
+/// steps, value and number of objects, or the most steps in their place; and
+/// how many numbers a report or a group has, or bytes a form's lines.
 pub type Answer = (Four, [u32; 5]);
 
 /// A question that is ready to be asked again and again.
@@ -83,6 +84,7 @@ impl Question {
             Question::Run(budget) => ("run", budget, 0),
             Question::Report(budget) => ("report", budget, 0),
             Question::Group(budget, members) => ("group", budget, members),
+            Question::Bound => ("bound", 0, 0),
         };
         [word.to_string(), a.to_string(), b.to_string()]
     }
@@ -96,6 +98,7 @@ impl Question {
             "run" => Some(Question::Run(a)),
             "report" => Some(Question::Report(a)),
             "group" => Some(Question::Group(a, b)),
+            "bound" => Some(Question::Bound),
             _ => None,
         }
     }
@@ -129,23 +132,31 @@ fn library(question: Question, text: &[u8]) -> Call<'_> {
             let g = with_work(|work| boundary::run(black_box(text), budget, work));
             (g.four(), [g.outcome, g.steps, g.value, g.objects, 0])
         }),
-        Question::Report(budget) => {
-            let mut result = vec![0; REPORT];
-            Box::new(move || {
-                let text = black_box(text);
-                let g = with_work(|work| boundary::report(text, budget, work, &mut result));
-                (g.four(), [g.outcome, g.steps, g.value, g.objects, g.count])
-            })
-        }
-        Question::Group(budget, members) => {
-            let (list, mut result) = (group::<u16>(members), vec![0; AUTHORITY]);
-            Box::new(move || {
-                let text = black_box(text);
-                let g = with_work(|work| boundary::group(text, budget, &list, work, &mut result));
-                (g.four(), [0, 0, 0, 0, g.count])
-            })
-        }
+        Question::Report(budget) => library_report(budget, text),
+        Question::Group(budget, members) => library_group(budget, members, text),
+        Question::Bound => Box::new(move || {
+            let given = with_work(|work| boundary::bound(black_box(text), work));
+            (given.four(), [0, given.steps, 0, 0, 0])
+        }),
     }
+}
+
+fn library_report(budget: u32, text: &[u8]) -> Call<'_> {
+    let mut result = vec![0; REPORT];
+    Box::new(move || {
+        let text = black_box(text);
+        let g = with_work(|work| boundary::report(text, budget, work, &mut result));
+        (g.four(), [g.outcome, g.steps, g.value, g.objects, g.count])
+    })
+}
+
+fn library_group(budget: u32, members: u32, text: &[u8]) -> Call<'_> {
+    let (list, mut result) = (group::<u16>(members), vec![0; AUTHORITY]);
+    Box::new(move || {
+        let text = black_box(text);
+        let g = with_work(|work| boundary::group(text, budget, &list, work, &mut result));
+        (g.four(), [0, 0, 0, 0, g.count])
+    })
 }
 
 /// Main, and then the objects from 0 on.
@@ -172,28 +183,36 @@ fn second_program(question: Question, text: &[u8]) -> Call<'_> {
             Ok(run) => ran(run),
             Err(refusal) => judged(Err(refusal)),
         }),
-        Question::Report(budget) => {
-            // Its verdict keeps the sheet to itself, so the run goes on from
-            // one that was read before: nothing is counted twice.
-            let sheet = read(text);
-            Box::new(move || {
-                black_box(judged(second::verdict(black_box(text))));
-                let mut machine = Machine::start(&sheet);
-                let mut answer = ran(machine.run(black_box(budget)));
-                answer.1[4] = black_box(entries(&machine)).len() as u32;
-                answer
-            })
-        }
-        Question::Group(budget, members) => {
-            let list = group::<u32>(members);
-            Box::new(
-                move || match second::group(black_box(text), budget, &list) {
-                    Ok(held) => ([0; 4], [0, 0, 0, 0, black_box(held).len() as u32]),
-                    Err(refusal) => judged(Err(refusal)),
-                },
-            )
-        }
+        Question::Report(budget) => second_report(budget, text),
+        Question::Group(budget, members) => second_group(budget, members, text),
+        Question::Bound => Box::new(move || match second::bound(black_box(text)) {
+            Ok(steps) => ([0; 4], [0, steps, 0, 0, 0]),
+            Err(refusal) => judged(Err(refusal)),
+        }),
     }
+}
+
+/// Its verdict keeps the sheet to itself, so the run goes on from one that was
+/// read before: nothing is counted twice.
+fn second_report(budget: u32, text: &[u8]) -> Call<'_> {
+    let sheet = read(text);
+    Box::new(move || {
+        black_box(judged(second::verdict(black_box(text))));
+        let mut machine = Machine::start(&sheet);
+        let mut answer = ran(machine.run(black_box(budget)));
+        answer.1[4] = black_box(entries(&machine)).len() as u32;
+        answer
+    })
+}
+
+fn second_group(budget: u32, members: u32, text: &[u8]) -> Call<'_> {
+    let list = group::<u32>(members);
+    Box::new(
+        move || match second::group(black_box(text), budget, &list) {
+            Ok(held) => ([0; 4], [0, 0, 0, 0, black_box(held).len() as u32]),
+            Err(refusal) => judged(Err(refusal)),
+        },
+    )
 }
 
 /// The sheet of an accepted text.

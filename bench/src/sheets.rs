@@ -78,6 +78,47 @@ pub fn slowest() -> String {
     text + &format!("new=62{}\n", ",0".repeat(8)).repeat(31)
 }
 
+/// Built for the question for the most steps, which looks for each of 64 names
+/// among the members of every form: 64 forms of eight methods, and as many
+/// instructions as there may be. Names 0 to 63 stand in rows 1 to 8, of which
+/// each has eight forms. All but those of row 1 keep an object of the row below.
+pub fn many_bodies() -> String {
+    let mut text = String::from("types=9\ntype=1,0\n");
+    for name in 0..64 {
+        text += if name % 8 == 0 { "type=1,8\n" } else { "" };
+        let _ = writeln!(text, "def={name},0,0");
+    }
+    text += "forms=64\n";
+    for form in 0..64 {
+        let below = form / 8;
+        let _ = match below {
+            0 => writeln!(text, "form=1,0"),
+            _ => writeln!(text, "form={},1\nkeep={below}", below + 1),
+        };
+        for place in 0..8 {
+            text += &calling_body(8 * below + place);
+        }
+    }
+    text += "main=8\nnew=0\n";
+    for below in 0..6 {
+        let _ = writeln!(text, "new={},{below}", 8 * (below + 1));
+    }
+    text + "call=6,55,0\n"
+}
+
+/// A body of a name: it calls the name below and the lowest of its own row, or,
+/// if it is that one, of the row below. So amounts stay small enough for an
+/// answer. Name 0 has none to call.
+fn calling_body(name: usize) -> String {
+    let (slot, lowest) = match name % 8 {
+        _ if name == 0 => return String::from("body=1\ncopy=1\n"),
+        0 => (2, name - 8),
+        place => (0, name - place),
+    };
+    let below = name - 1;
+    format!("body=2\ncall={slot},{below},1\ncall={slot},{lowest},1\n")
+}
+
 /// A sheet with its last line torn: it is read to the end, and not judged.
 pub fn torn(sheet: &str) -> &str {
     sheet.trim_end()

@@ -2,7 +2,7 @@
 //! deserve to be yardsticks.
 
 use crate::plain_sheet::plain;
-use crate::{agree, rows, run_sheets, runs, sheets};
+use crate::{agree, bounds, rows, run_sheets, runs, sheets};
 
 fn is_accepted(text: &str) -> bool {
     second::verdict(text.as_bytes()).is_ok()
@@ -49,6 +49,26 @@ fn the_slowest_sheet_has_every_instruction() {
     assert!(is_accepted(&text));
     let lines = text.lines();
     assert_eq!(lines.filter(|line| line.starts_with("new=")).count(), 1_024);
+}
+
+#[test]
+fn every_sheet_of_the_most_steps_is_answered() {
+    for (name, text) in bounds::sheets() {
+        let answer = second::bound(text.as_bytes());
+        assert!(answer.is_ok(), "{name}: {answer:?}");
+    }
+}
+
+#[test]
+fn many_bodies_have_every_part_and_every_instruction() {
+    let text = sheets::many_bodies();
+    let sheet = second::read(text.as_bytes()).expect("an accepted sheet");
+    let parts: usize = sheet.forms.iter().map(|form| form.parts.len()).sum();
+    assert_eq!((sheet.forms.len(), parts), (64, 512));
+    let count = |key: &str| text.lines().filter(|line| line.starts_with(key)).count();
+    assert_eq!(count("body="), 512);
+    assert_eq!(count("call="), 1_009);
+    assert_eq!(count("call=") + count("copy=") + count("new="), 1_024);
 }
 
 #[test]
