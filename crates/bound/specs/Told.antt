@@ -40,6 +40,10 @@ partsCalls s f = partsFaults strictLines s f (formAt s f) (membersAt s ((formAt 
 abbrev pub formsCalls : Sheet → List Fault
 formsCalls s = formsFaults strictLines s 0 (s .forms)
 
+-- the most that 32 instructions can add up to: one for each, and 4,294,967,295 for its call. So no sum in 64 bits overflows
+abbrev pub sumLimit : ℕ
+sumLimit = 137438953472
+
 -- a part's instructions, if it is a body
 abbrev pub codeOf : Part → Option (List Instr)
 codeOf (body is) = some is

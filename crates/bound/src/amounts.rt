@@ -10,7 +10,7 @@ ghost use Rattle.table.specs.View.{instrIn, instrsIn, sheetIn};
 ghost use Rattle.table.specs.Whole.{Whole};
 ghost use Rattle.bound_rules.specs.Amount.{amountAt, calledAmount, codeAmount, bodyAmount, mainAmount, amounts as allAmounts};
 ghost use Rattle.bound_rules.specs.BoundQuestion.{amountLimit, counted};
-ghost use Rattle.bound.specs.Told.{codeOf, membersBelow, Passed, FormTold, NameTold, CutOff, Zeros};
+ghost use Rattle.bound.specs.Told.{sumLimit, codeOf, membersBelow, Passed, FormTold, NameTold, CutOff, Zeros};
 ghost use Rattle.form_typing.specs.Told.{PlaceSmall};
 use crate::Called;
 use table::forms::PartPlace;
@@ -40,7 +40,7 @@ fn called_amount(work: &[u16], amounts: &[u32], p: usize) -> u32
 // The amount of `count` instructions, from place `start` of the pool on.
 fn code_amount(work: &[u16], amounts: &[u32], start: u16, count: usize) -> u64
     requires { ⌜ (workSize ≤ length (now work)) × (count ≤ 32) ⌝ }
-    ensures { λ r. ⌜ (r ≡ codeAmount (now (amounts .entry)) (instrsIn (now (work .entry)) start count)) × (r ≤ 137438953472) ⌝ }
+    ensures { λ r. ⌜ (r ≡ codeAmount (now (amounts .entry)) (instrsIn (now (work .entry)) start count)) × (r ≤ sumLimit) ⌝ }
 {
     let mut amount: u64 = 0;
     let mut j: usize = 0;
