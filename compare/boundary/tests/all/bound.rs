@@ -8,7 +8,7 @@ use boundary::{bound, four, run, BoundResult, WORK};
 use second::machine::Machine;
 use second::Outcome;
 
-/// Runs of more steps than this are too slow for so many sheets.
+/// Runs of more steps than this are left out, for the time they take.
 const LONG: u32 = 20_000;
 
 /// The second program's answer.
