@@ -18,7 +18,7 @@ use Rattle.bound_rules.specs.Amount.{amountAt, calledAmount, codeAmount, bodyAm
 use Rattle.bound_rules.specs.BoundQuestion.{amountLimit, counted}
 use Rattle.bound_rules.proofs.AmountLaws.{amounts-length}
 use Rattle.bound_rules.proofs.BoundLaws.{counted-over}
-use Rattle.bound.specs.Told.{Zeros, Passed, NameTold, CutOff}
+use Rattle.bound.specs.Told.{Zeros, Passed, NameTold, CutOff, Filled}
 use Rattle.bound.proofs.PassedLaws.{passed-zero}
 
 -- two amounts are the same, or both are over the limit
@@ -136,6 +136,8 @@ module _ {s : Sheet} {zs ys : List ℕ} {n : ℕ} (g : Filling s zs ys n) where
           getD-set-other zs n m amount 0 (λ q. omega arith) ∙ g .done .each m
           ∙ ap (λ (x : ℕ). min x amountLimit) (List·getD-eq-default before 0 z ∙ sym (List·getD-eq-default (before ++ (this ∷ [])) 0 y))
 
-  pub filling-end : 64 ≤ n → CutOff (amounts s) zs
+  pub filling-end : 64 ≤ n → Filled s zs ys
   unfolding amounts
-  filling-end l = let e : n ≡ suc nameLimit = omega (arith, g .within) in subst (λ (k : ℕ). CutOff (amountsBelow s k) zs) e (g .done)
+  filling-end l =
+      let e : n ≡ suc nameLimit = omega (arith, g .within) in
+      record { cut = subst (λ (k : ℕ). CutOff (amountsBelow s k) zs) e (g .done); passed = subst (λ (k : ℕ). Passed s k ys) e (g .passed) }

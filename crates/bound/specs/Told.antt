@@ -9,11 +9,12 @@ use lib.ListN.{length, getD, set, replicate}
 use Rattle.sheet_rules.specs.declared.Member.{Member}
 use Rattle.sheet_rules.specs.declared.Member.the-variants.{Method, Field}
 use Rattle.sheet_rules.specs.declared.Reason.the-variants.{CircularCall}
+use Rattle.sheet_rules.specs.Limits.{nameLimit}
 use Rattle.sheet_rules.specs.RowLines.{nameOf}
 use Rattle.sheet_rules.specs.Sheet.{Instr, calledName, Part, init, body, Sheet, formAt}
 use Rattle.type_rules.specs.Typing.{Fault, unless, membersAt, partsFaults, formsFaults}
 use Rattle.bound_rules.specs.Strict.{callsBelow, strictLines, bodyOf}
-use Rattle.bound_rules.specs.Amount.{amountAt, bodyAmount, nameAmount}
+use Rattle.bound_rules.specs.Amount.{amountAt, bodyAmount, nameAmount, amounts}
 use Rattle.bound_rules.specs.BoundQuestion.{amountLimit}
 use Rattle.bound.specs.declared.Called.{Called}
 
@@ -80,3 +81,8 @@ Zeros zs = zs ≡ replicate 64 0
 -- the amounts of xs, each cut off at the limit
 pub record CutOff (xs zs : List ℕ) : Type 0 where
   pub each : (n : ℕ) → amountAt zs n ≡ min (amountAt xs n) amountLimit
+
+-- the amounts of all names, each cut off at the limit; and the members of all names are passed
+pub record Filled (s : Sheet) (zs ys : List ℕ) : Type 0 where
+  pub cut : CutOff (amounts s) zs
+  pub passed : Passed s (suc nameLimit) ys

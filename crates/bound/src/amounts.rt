@@ -8,9 +8,9 @@ ghost use Rattle.table.specs.Layout.{workSize};
 ghost use Rattle.table.specs.Told.{partTold};
 ghost use Rattle.table.specs.View.{instrIn, instrsIn, sheetIn};
 ghost use Rattle.table.specs.Whole.{Whole};
-ghost use Rattle.bound_rules.specs.Amount.{amountAt, calledAmount, codeAmount, bodyAmount, mainAmount, amounts as allAmounts};
+ghost use Rattle.bound_rules.specs.Amount.{amountAt, calledAmount, codeAmount, bodyAmount, mainAmount};
 ghost use Rattle.bound_rules.specs.BoundQuestion.{amountLimit, counted};
-ghost use Rattle.bound.specs.Told.{sumLimit, codeOf, membersBelow, Passed, FormTold, NameTold, CutOff, Zeros};
+ghost use Rattle.bound.specs.Told.{sumLimit, codeOf, membersBelow, Passed, FormTold, NameTold, Zeros, Filled};
 ghost use Rattle.form_typing.specs.Told.{PlaceSmall};
 use crate::Called;
 use table::forms::PartPlace;
@@ -124,7 +124,7 @@ fn name_amount(work: &[u16], amounts: &[u32], next: &mut [u16], name: usize) -> 
 // The amounts of all names, cut off at the limit, in ascending order: in a sheet of the stricter kind a body calls lower names alone.
 fn fill_amounts(work: &[u16], amounts: &mut [u32], next: &mut [u16])
     requires { ⌜ Whole (now work) × Zeros (now amounts) × Zeros (now next) ⌝ }
-    ensures { λ r. ⌜ CutOff (allAmounts (sheetIn (now (work .entry)))) (now (amounts .exit)) ⌝ }
+    ensures { λ r. ⌜ Filled (sheetIn (now (work .entry))) (now (amounts .exit)) (now (next .exit)) ⌝ }
 {
     let mut name: usize = 0;
     while name < 64 {

@@ -41,7 +41,7 @@ bodyOf s f n = bodyIn (membersAt s (f .row)) (f .parts) n
 abbrev pub CallsBelow : ℕ → List Instr → Type 0
 CallsBelow n is = (i : Instr) → In i is → (m : ℕ) → calledName i ≡ some m → m < n
 
--- a sheet of the stricter kind, as a fact: whatever form's body of whatever method n, each of its calls is of a name below n. StrictLaws
--- proves that these are exactly the sheets without a line against the rule (order 4)
+-- a sheet of the stricter kind, as a fact: whatever form's body of whatever method n, each of its calls is of a name below n. These
+-- are exactly the sheets without a line against the rule (StrictLaws.strict-exactly) (order 4)
 abbrev pub Strict : Sheet → Type 0
 Strict s = (f : Form) → In f (s .forms) → (n : ℕ) (is : List Instr) → bodyOf s f n ≡ some is → CallsBelow n is

@@ -6,7 +6,7 @@ use Rattle.bound.proofs.amounts.main_amount.Tie as tie
 returns : tie.Need-returns
 returns c =
     let s = c .before .before .before in let f = s .before .before .before in
-    main-told (f .before .before .before .before .args .work .now) (f .fill-amounts .ensures) (s .main-start .ensures) (c .before .before .main-count .ensures .0) (c .code-amount .ensures .0)
+    main-told (f .before .before .before .before .args .work .now) (f .fill-amounts .ensures .cut) (s .main-start .ensures) (c .before .before .main-count .ensures .0) (c .code-amount .ensures .0)
 
 pub main-amount-spec : {M : Type 1} → statement M
 main-amount-spec =
