@@ -10,7 +10,7 @@ use mathlib.Core.Option.{Option, none, some}
 use lib.Dec.{eqb, ltb}
 use lib.ListN.{length, getD, set}
 use lib.Seq.{set-getD}
-use borrow.Author.Tests.{ltb-true, ltb-false, lt-ltb, le-ltb, eqb-true, eqb-false, eq-eqb, ne-eqb}
+use borrow.Author.Tests.{ltb-true, ltb-false, lt-ltb, le-ltb, eqb-true, eqb-false, eq-eqb}
 use Rattle.lists.specs.Pairwise.{Pairwise, pair}
 use Rattle.sheet_rules.specs.declared.Member.{Member}
 use Rattle.sheet_rules.specs.declared.Member.the-variants.{Method, Field}
@@ -27,6 +27,7 @@ use Rattle.table.proofs.SheetLaws.{parts-pairwise}
 use Rattle.bound_rules.specs.Strict.{bodyOf}
 use Rattle.bound_rules.specs.Amount.{bodyAmount}
 use Rattle.bound_rules.specs.BoundQuestion.{amountLimit}
+use Rattle.bound_rules.proofs.StrictLaws.{other-name, none-under}
 use Rattle.bound.specs.Told.{codeOf, passedBelow, membersBelow, FormTold}
 use Rattle.bound.proofs.MembersLaws.{membersIn, partsIn, all-members, member-is, part-is}
 
@@ -41,19 +42,7 @@ module _ (n : ℕ) where
   unfolding passedBelow
   passed-end m ms l = ap (λ (t : Bool). cond t (suc (passedBelow ms n)) 0) (le-ltb (nameOf m) n l)
 
-  other-name : (m : Member) (p : Part) (ms : List Member) (ps : List Part) → (nameOf m ≡ n → ⊥) → bodyIn (m ∷ ms) (p ∷ ps) n ≡ bodyIn ms ps n
-  unfolding bodyIn
-  other-name (Field m r) p ms ps h = refl
-  other-name (Method m a r) (init k) ms ps h = refl
-  other-name (Method m a r) (body is) ms ps h = ap (λ (t : Bool). cond t (some is) (bodyIn ms ps n)) (ne-eqb m n h)
-
-  -- members of higher names have no body of this one, and none of them is passed
-  none-under : {b : ℕ} {ms : List Member} (ps : List Part) → NamesAscend b ms → n < b → bodyIn ms ps n ≡ none
-  unfolding bodyIn
-  none-under ps end l = refl
-  none-under [] (above h up) l = refl
-  none-under (p ∷ ps) (above {x = m} {xs = ms} h up) l = other-name m p ms ps (λ e. omega arith) ∙ none-under ps up (omega arith)
-
+  -- none of the members of higher names is passed
   none-passed : {b : ℕ} {ms : List Member} → NamesAscend b ms → n ≤ b → passedBelow ms n ≡ 0
   unfolding passedBelow
   none-passed end l = refl

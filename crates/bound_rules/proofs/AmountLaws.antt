@@ -4,25 +4,23 @@ use Prim.Native.Nat.{ℕ, zero, suc, _+_, _≤_, _<_}
 use native.Mathlib.Omega.{arith}
 use native.Mathlib.Decide.{decLe}
 use mathlib.Core.Path.{_≡_, refl, sym, ap, ap₂, _∙_}
-use mathlib.Core.Bool.{Bool, cond}
 use mathlib.Core.List.{List, [], _∷_, _++_}
 use mathlib.Core.Option.{Option, none, some}
 use lib.ListN.{length, length-append, List·getD-append, List·getD-eq-default}
 use lib.Seq.{getD-at}
-use borrow.Author.Tests.{ne-eqb}
 use Rattle.lists.specs.In.{In, here, there}
 use Rattle.lists.proofs.InLaws.{in-nil}
 use Rattle.sheet_rules.specs.declared.Member.{Member}
-use Rattle.sheet_rules.specs.declared.Member.the-variants.{Method, Field}
+use Rattle.sheet_rules.specs.declared.Member.the-variants.{Method}
 use Rattle.sheet_rules.specs.Limits.{nameLimit}
-use Rattle.sheet_rules.specs.Sheet.{Instr, calledName, Part, init, body, Form, Sheet}
+use Rattle.sheet_rules.specs.Sheet.{Instr, calledName, Part, body, Form, Sheet}
 use Rattle.sheet_rules.specs.RowLines.{nameOf}
 use Rattle.sheet_rules.specs.WellFormed.{WellFormed}
 use Rattle.type_rules.specs.Typing.{membersAt}
 use Rattle.machine_rules.specs.Step.{bodyIn}
 use Rattle.bound_rules.specs.Strict.{bodyOf, CallsBelow, Strict}
 use Rattle.bound_rules.specs.Amount.{amountAt, calledAmount, codeAmount, bodyAmount, largestIn, nameAmount, amountsBelow, amounts}
-use Rattle.bound_rules.proofs.StrictLaws.{PartFor, body-found}
+use Rattle.bound_rules.proofs.StrictLaws.{PartFor, other-name, body-found}
 
 -- WHAT AN AMOUNT GOES BY
 
@@ -72,12 +70,9 @@ none-above : (n : ℕ) (ms : List Member) (ps : List Part) → ((x : Member) →
 unfolding bodyIn
 none-above n [] ps h = refl
 none-above n (m ∷ ms) [] h = refl
-none-above n (Field m r ∷ ms) (p ∷ ps) h = none-above n ms ps (λ x i. h x (there i))
-none-above n (Method m a r ∷ ms) (init k ∷ ps) h = none-above n ms ps (λ x i. h x (there i))
-none-above n (Method m a r ∷ ms) (body is ∷ ps) h =
-    let l = h (Method m a r) (here refl) in
-    let other : m ≡ n → ⊥ = λ e. omega arith in
-    ap (λ (t : Bool). cond t (some is) (bodyIn ms ps n)) (ne-eqb m n other) ∙ none-above n ms ps (λ x i. h x (there i))
+none-above n (m ∷ ms) (p ∷ ps) h =
+    let l = h m (here refl) in
+    other-name n m p ms ps (λ e. omega arith) ∙ none-above n ms ps (λ x i. h x (there i))
 
 -- AMOUNTS, ONE NAME AFTER ANOTHER
 

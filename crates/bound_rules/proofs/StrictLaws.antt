@@ -22,7 +22,7 @@ use Rattle.sheet_rules.specs.Lines.{Line, torn, linesOf}
 use Rattle.sheet_rules.specs.Sheet.{Instr, new, call, get, put, copy, calledName, Part, init, body, Form, Sheet}
 use Rattle.sheet_rules.specs.Reading.{readable, meaning}
 use Rattle.sheet_rules.specs.RowLines.{nameOf}
-use Rattle.sheet_rules.specs.WellFormed.{NamesAscend, above, WellFormed}
+use Rattle.sheet_rules.specs.WellFormed.{NamesAscend, end, above, WellFormed}
 use Rattle.sheet_rules.specs.Print.{instrWritten}
 use Rattle.type_rules.specs.Typing.{membersAt, mainRows, Fault, unless, Own, InstrJudge, codeFaults, rowsAfter, bodyRows, partFaults, partsFaults, keepFaults, formFaults, formsFaults, lineFaults, firstFormLine}
 use Rattle.type_rules.proofs.TypingLaws.{Faultless, firstFault-faultless, unless-passed}
@@ -38,29 +38,27 @@ pub data PartFor (m : Member) (p : Part) : List Member → List Part → Type 0 
   first : {ms : List Member} {ps : List Part} → PartFor m p (m ∷ ms) (p ∷ ps)
   later : {x : Member} {y : Part} {ms : List Member} {ps : List Part} → PartFor m p ms ps → PartFor m p (x ∷ ms) (y ∷ ps)
 
--- a body that is found is one of a name among the members
-found-above : (b n : ℕ) (ms : List Member) (ps : List Part) (is : List Instr) → NamesAscend b ms → bodyIn ms ps n ≡ some is → b ≤ n
+-- a member of another name has no part in it
+pub other-name : (n : ℕ) (m : Member) (p : Part) (ms : List Member) (ps : List Part) → (nameOf m ≡ n → ⊥) → bodyIn (m ∷ ms) (p ∷ ps) n ≡ bodyIn ms ps n
 unfolding bodyIn
-found-above b n [] ps is up e = clash (cc)
-found-above b n (m ∷ ms) [] is up e = clash (cc)
-found-above b n (Field m r ∷ ms) (p ∷ ps) is (above l up) e = let h = found-above (suc m) n ms ps is up e in omega arith
-found-above b n (Method m a r ∷ ms) (init k ∷ ps) is (above l up) e = let h = found-above (suc m) n ms ps is up e in omega arith
-found-above b n (Method m a r ∷ ms) (body js ∷ ps) is (above l up) e = go (eqb m n) refl e (found-above (suc m) n ms ps is up)
-  where
-    go : (t : Bool) → eqb m n ≡ t → cond t (some js) (bodyIn ms ps n) ≡ some is → (bodyIn ms ps n ≡ some is → suc m ≤ n) → b ≤ n
-    go true q e more = let same = eqb-true m n q in omega arith
-    go false q e more = let h = more e in omega arith
+other-name n (Field m r) p ms ps h = refl
+other-name n (Method m a r) (init k) ms ps h = refl
+other-name n (Method m a r) (body is) ms ps h = ap (λ (t : Bool). cond t (some is) (bodyIn ms ps n)) (ne-eqb m n h)
+
+-- members of higher names have no body of this one
+pub none-under : (n : ℕ) {b : ℕ} {ms : List Member} (ps : List Part) → NamesAscend b ms → n < b → bodyIn ms ps n ≡ none
+unfolding bodyIn
+none-under n ps end l = refl
+none-under n [] (above h up) l = refl
+none-under n (p ∷ ps) (above {x = m} {xs = ms} h up) l = other-name n m p ms ps (λ e. omega arith) ∙ none-under n ps up (omega arith)
 
 -- what is found among later members is found among all
 found-later : (x : Member) (y : Part) {ms : List Member} (ps : List Part) (n : ℕ) {is : List Instr} → NamesAscend (suc (nameOf x)) ms → bodyIn ms ps n ≡ some is
     → bodyIn (x ∷ ms) (y ∷ ps) n ≡ some is
-unfolding bodyIn
-found-later (Field m r) y ps n up e = e
-found-later (Method m a r) (init k) ps n up e = e
-found-later (Method m a r) (body js) {ms} ps n {is} up e =
-    let h = found-above (suc m) n ms ps is up e in
-    let other : m ≡ n → ⊥ = λ q. omega arith in
-    ap (λ (t : Bool). cond t (some js) (bodyIn ms ps n)) (ne-eqb m n other) ∙ e
+found-later x y {ms} ps n {is} up e = other-name n x y ms ps (λ q. not-found (none-under n ps up (omega arith))) ∙ e
+  where
+    not-found : bodyIn ms ps n ≡ none → ⊥
+    not-found z = clash (cc)
 
 -- every body is found by its method's name, as names ascend
 pub body-found : {n a r b : ℕ} {is : List Instr} {ms : List Member} {ps : List Part} → NamesAscend b ms → PartFor (Method n a r) (body is) ms ps → bodyIn ms ps n ≡ some is
