@@ -101,6 +101,12 @@ enum lexondar_outcome {
 /*
  * Whether row a fits row b: fits is 1 or 0, and with 0 lack and name say what
  * row b asks for that row a lacks. Refusals 1 to 7.
+ *
+ * One walk along the members of both rows settles it, in at most as many turns
+ * as they have members together. passed says how many of row a's it passed, 0
+ * to 8: those with names up to name, a member of that very name included; with
+ * fits 1 those up to the last name of row b. 0 where the kind is lacking, and
+ * where row b has no member.
  */
 struct lexondar_fit_result {
     uint32_t refusal;
@@ -108,6 +114,7 @@ struct lexondar_fit_result {
     uint32_t lack;
     uint32_t name;
     uint32_t fits;
+    uint32_t passed;
 };
 
 struct lexondar_fit_result lexondar_fit(const uint8_t *text, size_t text_len, size_t a, size_t b,

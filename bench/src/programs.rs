@@ -3,7 +3,7 @@
 use crate::{plain, threaded};
 use boundary::{entries, four, lacking, Begins, Four, AUTHORITY, REPORT, WORK};
 use second::machine::Machine;
-use second::{FitAnswer, Refusal, RunAnswer, Sheet};
+use second::{FitAnswer, FitTold, Refusal, RunAnswer, Sheet};
 use std::cell::RefCell;
 use std::hint::black_box;
 
@@ -122,7 +122,7 @@ fn library(question: Question, text: &[u8]) -> Call<'_> {
         Question::Fit(a, b) => Box::new(move || {
             let (a, b) = (a as usize, b as usize);
             let given = with_work(|work| boundary::fit(black_box(text), a, b, work));
-            (given.four(), [given.fits, 0, 0, 0, 0])
+            (given.four(), [given.fits, given.passed, 0, 0, 0])
         }),
         Question::Form(form) => Box::new(move || {
             let g = with_work(|work| boundary::form(black_box(text), form as usize, work));
@@ -169,7 +169,7 @@ fn second_program(question: Question, text: &[u8]) -> Call<'_> {
     match question {
         Question::Verdict => Box::new(move || judged(second::verdict(black_box(text)))),
         Question::Fit(a, b) => Box::new(move || match second::fit(black_box(text), a, b) {
-            Ok(answer) => fitted(answer),
+            Ok(told) => fitted(told),
             Err(refusal) => judged(Err(refusal)),
         }),
         Question::Form(form) => {
@@ -225,10 +225,10 @@ fn judged(verdict: Result<(), Refusal>) -> Answer {
     (verdict.err().map_or([0; 4], four), [0; 5])
 }
 
-fn fitted(answer: FitAnswer) -> Answer {
+fn fitted(FitTold { answer, passed }: FitTold) -> Answer {
     let [lack, name] = lacking(answer.lack());
     let fits = answer == FitAnswer::Yes;
-    ([0, 0, lack, name], [fits.into(), 0, 0, 0, 0])
+    ([0, 0, lack, name], [fits.into(), passed, 0, 0, 0])
 }
 
 fn ran(run: RunAnswer) -> Answer {

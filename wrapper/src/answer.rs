@@ -74,6 +74,17 @@ impl Fit {
     }
 }
 
+/// Where the walk along the members of rows a and b ended.
+#[derive(Clone, Copy, Debug, PartialEq, Eq)]
+pub struct Walk {
+    /// Whether row a fits row b.
+    pub fit: Fit,
+    /// How many members of row a were passed, its first ones: those with names
+    /// up to the answered one, one that mismatches included; on yes those up to
+    /// b's last. None on kind, and none where b has no member.
+    pub passed: usize,
+}
+
 /// What a member of a row is, by its line in a text that was read.
 fn member(text: &[u8], row: usize, name: u16) -> &'static str {
     let mut lines = text.split(|byte| *byte == b'\n');

@@ -7,7 +7,7 @@ pub mod answer;
 pub mod raw;
 mod results;
 
-pub use answer::{Fit, Lack, Outcome, Reason, Refusal, Run};
+pub use answer::{Fit, Lack, Outcome, Reason, Refusal, Run, Walk};
 
 /// Main's number as a holder.
 pub const MAIN: usize = 256;
@@ -34,11 +34,15 @@ fn zeros<const N: usize>() -> Box<[u16; N]> {
     numbers.try_into().expect("as many as were made")
 }
 
-/// Whether row a of the text's sheet fits row b, and what is lacking if not.
-pub fn fit(text: &[u8], a: usize, b: usize, work: &mut Work) -> Result<Fit, Refusal> {
+/// Whether row a of the text's sheet fits row b, what is lacking if not, and
+/// how many members of row a the walk along both passed.
+pub fn fit(text: &[u8], a: usize, b: usize, work: &mut Work) -> Result<Walk, Refusal> {
     let given = raw::fit(text, a, b, &mut work.0[..]);
     Refusal::check(&given)?;
-    Ok(Fit::of(given.lack, given.name))
+    Ok(Walk {
+        fit: Fit::of(given.lack, given.name),
+        passed: given.passed as usize,
+    })
 }
 
 /// The lines of a form of the text's sheet, as they stand in the text: that

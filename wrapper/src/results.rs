@@ -6,7 +6,8 @@
 pub type Four = [u32; 4];
 
 /// The fit question's answer: the four numbers, and 1 for yes; with 0 the four
-/// say what is lacking.
+/// say what is lacking. And the members of row a that the walk passed, of a
+/// refused one 0.
 #[repr(C)]
 #[derive(Clone, Copy, Debug, PartialEq, Eq)]
 pub struct FitResult {
@@ -15,6 +16,7 @@ pub struct FitResult {
     pub lack: u32,
     pub name: u32,
     pub fits: u32,
+    pub passed: u32,
 }
 
 /// A verdict: the four numbers.

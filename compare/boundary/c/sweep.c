@@ -84,7 +84,7 @@ static void ask(const uint8_t *text, size_t length, uint32_t budget) {
     uint16_t *held = room(LEXONDAR_AUTHORITY * sizeof *held);
     uint16_t *all = room(LEXONDAR_REPORT * sizeof *all);
     struct lexondar_fit_result fit = lexondar_fit(text, length, 1, 0, work, LEXONDAR_WORK);
-    add_fields(5, (uint32_t[]){fit.refusal, fit.line, fit.lack, fit.name, fit.fits});
+    add_fields(6, (uint32_t[]){fit.refusal, fit.line, fit.lack, fit.name, fit.fits, fit.passed});
     add_work(work);
     ask_forms(text, length, work);
     struct lexondar_run_result run = lexondar_run(text, length, budget, work, LEXONDAR_WORK);

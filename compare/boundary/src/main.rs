@@ -2,7 +2,7 @@
 //! one question on standard output, in the second program's words.
 
 use boundary::{authority, bound, fit, form, group, run, verdict};
-use boundary::{Begins, RunResult, AUTHORITY, WORK};
+use boundary::{Begins, FitResult, RunResult, AUTHORITY, WORK};
 use std::io::Read;
 use std::process::ExitCode;
 
@@ -39,7 +39,7 @@ fn answer(words: &[&str], text: &[u8]) -> Option<String> {
         ["fit", a, b] => {
             let given = fit(text, a.parse().ok()?, b.parse().ok()?, &mut work);
             Some(match given.refusal {
-                0 => format!("fit={}{}\n", given.fits, lacking(",", &given)),
+                0 => fit_lines(given),
                 _ => refused(&given),
             })
         }
@@ -67,6 +67,12 @@ fn answer(words: &[&str], text: &[u8]) -> Option<String> {
         }
         _ => held(words, text, &mut work),
     }
+}
+
+/// Whether a row fits another, what is lacking, and the members passed.
+fn fit_lines(given: FitResult) -> String {
+    let FitResult { fits, passed, .. } = given;
+    format!("fit={fits}{}\npassed={passed}\n", lacking(",", &given))
 }
 
 /// What a holder holds, or a list of them.

@@ -16,6 +16,8 @@ mod ladder;
 mod mill;
 mod misfit;
 mod mutate;
+mod pair;
+pub mod passing;
 mod plan;
 mod readable;
 pub mod report;
@@ -27,12 +29,14 @@ mod style;
 mod summit;
 mod tower;
 pub mod walk;
+mod wide;
 
 use draft::{render, Draft};
 use rng::Rng;
 
 pub use bound_edges::{bound_edges, BoundAnswer};
 pub use group::group;
+pub use pair::pairs;
 pub use strict::ROTATION as STRICT_ROTATION;
 
 /// After this number of indexes the kinds come round again.
@@ -79,6 +83,12 @@ pub fn readable(seed: u64, index: u64) -> Vec<u8> {
 /// sure to finish, or one call away from that. The index decides the kind.
 pub fn strict(seed: u64, index: u64) -> Vec<u8> {
     render(&strict::strict(&mut Rng::new(seed, index), index))
+}
+
+/// A well-typed sheet for the fit question, beside the rotation: many rows,
+/// of many members, that differ in little.
+pub fn wide(seed: u64, index: u64) -> Vec<u8> {
+    render(&wide::wide(&mut Rng::new(seed, index)))
 }
 
 /// A well-typed sheet: seven styles, towers, and sheets of mostly rows.

@@ -13,6 +13,8 @@ usage: generator SEED INDEX           write one sheet to standard output
        generator strict SEED INDEX    write one sheet that is sure to finish, or
                                       is one call away from that, to standard
                                       output
+       generator wide SEED INDEX      write one sheet of wide rows to standard
+                                      output
        generator report SEED COUNT    judge and run sheets 0 to COUNT - 1 of a
                                       seed and tell what they reach; exits with
                                       status 1 if a refusal from 2 to 10, an
@@ -36,16 +38,8 @@ fn main() -> ExitCode {
             (Some(seed), Some(count)) => tell(seed, count),
             _ => return wrong(),
         },
-        ["mill", seed, index] => match (number(seed), number(index)) {
-            (Some(seed), Some(index)) => put(&generator::mill(seed, index)),
-            _ => return wrong(),
-        },
-        ["readable", seed, index] => match (number(seed), number(index)) {
-            (Some(seed), Some(index)) => put(&generator::readable(seed, index)),
-            _ => return wrong(),
-        },
-        ["strict", seed, index] => match (number(seed), number(index)) {
-            (Some(seed), Some(index)) => put(&generator::strict(seed, index)),
+        [kind, seed, index] => match (maker(kind), number(seed), number(index)) {
+            (Some(make), Some(seed), Some(index)) => put(&make(seed, index)),
             _ => return wrong(),
         },
         [seed, index] => match (number(seed), number(index)) {
@@ -58,6 +52,17 @@ fn main() -> ExitCode {
         eprintln!("generator: {error}");
         ExitCode::FAILURE
     })
+}
+
+/// What makes the sheets of a kind beside the rotation.
+fn maker(kind: &str) -> Option<fn(u64, u64) -> Vec<u8>> {
+    match kind {
+        "mill" => Some(generator::mill),
+        "readable" => Some(generator::readable),
+        "strict" => Some(generator::strict),
+        "wide" => Some(generator::wide),
+        _ => None,
+    }
 }
 
 fn wrong() -> ExitCode {

@@ -103,7 +103,7 @@ impl Report {
         };
         let mut row = || rng.below(sheet.rows.len() + usize::from(sheet.rows.len() > 9)) as u32;
         let (a, b) = (row(), row());
-        let place = match second::fit(text, a, b) {
+        let place = match second::fit(text, a, b).map(|told| told.answer) {
             Ok(FitAnswer::Yes) => 0,
             Ok(FitAnswer::Kind) => 1,
             Ok(FitAnswer::Member(_)) => 2,

@@ -24,6 +24,14 @@ impl FitAnswer {
     }
 }
 
+/// What the fit question tells of rows a and b.
+#[derive(Clone, Copy, Debug, PartialEq, Eq)]
+pub struct FitTold {
+    pub answer: FitAnswer,
+    /// How many members of row a were passed on the way to the answer.
+    pub passed: u32,
+}
+
 /// The fit of every row to every row, each pair settled once.
 #[derive(Clone, Debug, Default)]
 pub struct FitTable {
@@ -61,6 +69,22 @@ impl FitTable {
     /// Whether row a fits row b, and if not, what it lacks.
     pub fn answer(&self, a: u16, b: u16) -> FitAnswer {
         self.answers[usize::from(a)][usize::from(b)]
+    }
+
+    /// The answer for rows a and b of these rows, which are the settled ones,
+    /// and the members of row a that were passed: those with names up to the
+    /// answered one, on yes those up to b's last. None on kind, and none
+    /// where b has no member.
+    pub fn told(&self, rows: &[Row], a: u16, b: u16) -> FitTold {
+        let (own, asked) = (&rows[usize::from(a)], &rows[usize::from(b)]);
+        let answer = self.answer(a, b);
+        let highest = match answer {
+            FitAnswer::Yes => asked.members.last().map(|last| last.name),
+            FitAnswer::Kind => None,
+            FitAnswer::Member(name) => Some(name),
+        };
+        let passed = highest.map_or(0, |name| own.up_to(name));
+        FitTold { answer, passed }
     }
 
     /// Whether row a fits row b.

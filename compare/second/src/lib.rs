@@ -19,10 +19,10 @@ mod stretch;
 mod typing;
 
 pub use authority::{GROUP_LIMIT, MAIN};
-pub use fit::FitAnswer;
+pub use fit::{FitAnswer, FitTold};
 pub use machine::{Outcome, RunAnswer, NO_VALUE};
 pub use print::{
-    fit_line, group_line, holder_line, print, question_lines, refusal_lines, PROGRAM_BUDGET,
+    fit_lines, group_line, holder_line, print, question_lines, refusal_lines, PROGRAM_BUDGET,
 };
 pub use reader::read;
 pub use refusal::{Lack, Reason, Refusal};
@@ -31,16 +31,17 @@ pub use sheet::Sheet;
 /// The two lines that stand for an accepted sheet.
 pub const NO_REFUSAL: &str = "verdict=0\nline=0\n";
 
-/// Whether row a of the sheet fits row b, and if not, what it lacks. Stops
-/// after reading.
-pub fn fit(text: &[u8], a: u32, b: u32) -> Result<FitAnswer, Refusal> {
+/// Whether row a of the sheet fits row b, and if not, what it lacks; and how
+/// many members of row a were passed to tell so. Stops after reading.
+pub fn fit(text: &[u8], a: u32, b: u32) -> Result<FitTold, Refusal> {
     let sheet = read(text)?;
     let row = |number: u32| match u16::try_from(number) {
         Ok(row) if usize::from(row) < sheet.rows.len() => Ok(row),
         _ => Err(Refusal::at(Reason::LooseEnd, 0)),
     };
     let (a, b) = (row(a)?, row(b)?);
-    Ok(fit::FitTable::of(&sheet.rows).answer(a, b))
+    let table = fit::FitTable::of(&sheet.rows);
+    Ok(table.told(&sheet.rows, a, b))
 }
 
 /// The lines of a form: the stretch of the text itself in which they stand.

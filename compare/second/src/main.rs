@@ -9,7 +9,8 @@ use std::process::ExitCode;
 const USAGE: &str = "\
 usage: second                          judge, run 10,000 steps, print all
        second fit A B                  fit=1 for yes, fit=0,2 for kind or
-                                       fit=0,3,N for member N
+                                       fit=0,3,N for member N, and passed=P,
+                                       the members of row A that were passed
        second form F                   the lines of form F as they stand
        second verdict                  verdict=0 and line=0
        second run BUDGET               run=OUTCOME,STEPS,VALUE,OBJECTS
@@ -99,7 +100,7 @@ fn answer(question: Question) -> io::Result<()> {
     };
     let answer = match question {
         Question::Print => Ok(second::print(&text)),
-        Question::Fit(a, b) => second::fit(&text, a, b).map(second::fit_line),
+        Question::Fit(a, b) => second::fit(&text, a, b).map(second::fit_lines),
         Question::Form(form) => second::form(&text, form as usize).map(plain),
         Question::Verdict => second::verdict(&text).map(|()| String::from(second::NO_REFUSAL)),
         Question::Run(budget) => second::run(&text, budget).map(run_line),

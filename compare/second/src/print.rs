@@ -1,7 +1,7 @@
 //! The program's printed answers.
 
 use crate::authority::{authority_of, holders};
-use crate::fit::FitAnswer;
+use crate::fit::FitTold;
 use crate::machine::Machine;
 use crate::refusal::{Lack, Refusal};
 use crate::{accepted, NO_REFUSAL};
@@ -43,12 +43,14 @@ pub fn question_lines(refusal: Refusal) -> String {
     lines
 }
 
-/// The answer of the fit question.
-pub fn fit_line(answer: FitAnswer) -> String {
-    match answer.lack() {
-        None => String::from("fit=1\n"),
-        Some(lack) => format!("fit=0,{}\n", lack_numbers(lack)),
-    }
+/// The two lines of the fit question: its answer, and how many members of
+/// row a were passed.
+pub fn fit_lines(told: FitTold) -> String {
+    let answer = match told.answer.lack() {
+        None => String::from("1"),
+        Some(lack) => format!("0,{}", lack_numbers(lack)),
+    };
+    format!("fit={answer}\npassed={}\n", told.passed)
 }
 
 /// The number of a lack, and a member's name after it.

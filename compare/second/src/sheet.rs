@@ -61,6 +61,12 @@ impl Row {
         }
     }
 
+    /// How many members have this name or a lower one.
+    pub fn up_to(&self, name: u16) -> u32 {
+        let members = self.members.iter();
+        members.map(|member| u32::from(member.name <= name)).sum()
+    }
+
     pub fn has_field(&self) -> bool {
         self.members
             .iter()

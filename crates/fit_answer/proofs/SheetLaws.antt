@@ -1,18 +1,26 @@
--- What the fit table says of two rows, by its word on them; and where it is filled, fit's own answer. Assumes nothing.
+-- What the fit table says of two rows, by its word on them; where the walk along them ends; and where the table is filled, fit's own
+-- answer and the rule's count. Assumes nothing.
 use Prim.Native.Nat.{ℕ, _≤_, _<_}
 use native.Mathlib.Omega.{arith}
 use mathlib.Core.Path.{_≡_, refl, sym, ap, ap₂, _∙_, subst}
 use mathlib.Core.Bool.{Bool, true, false, cond}
 use mathlib.Core.List.{List}
+use mathlib.Core.Option.{some}
 use lib.ListN.{length}
 use Rattle.sheet_rules.specs.declared.FitAnswer.{FitAnswer}
 use Rattle.sheet_rules.specs.declared.FitAnswer.the-variants.{Yes, WrongKind, Unmet}
 use Rattle.sheet_rules.specs.Answers.{isYes}
 use Rattle.sheet_rules.specs.Sheet.{Row, Sheet, rowAt}
 use Rattle.sheet_rules.specs.WellFormed.{WellFormed}
+use Rattle.type_rules.specs.declared.FitReply.the-variants.{Answered}
+use Rattle.type_rules.specs.declared.Walk.{Walk}
 use Rattle.type_rules.specs.Fit.{rowAnswer, fitAnswer, fits}
+use Rattle.type_rules.specs.FitQuestion.{passedIn}
+use Rattle.type_rules.specs.Passed.{passed}
 use Rattle.type_rules.specs.Says.{Says}
+use Rattle.type_rules.specs.Walk.{turnsOf}
 use Rattle.type_rules.proofs.AnswerLaws.{row-says, unmet-within}
+use Rattle.type_rules.proofs.EnoughLaws.{passed-most, row-enough}
 use Rattle.type_rules.proofs.FitLaws.{row-agree, fit-rule}
 use Rattle.table.specs.Layout.{rowCountAt}
 use Rattle.table.specs.View.{cell, sheetIn}
@@ -20,7 +28,7 @@ use Rattle.table.specs.Whole.{Whole}
 use Rattle.table.proofs.RowLaws.{rows-length}
 use Rattle.fit.specs.Told.{tells, FitFilled}
 use Rattle.fit.proofs.SheetLaws.{filled-sheet, sheet-tells}
-use Rattle.fit_answer.specs.Told.{rowsSay, answers}
+use Rattle.fit_answer.specs.Told.{rowOf, rowsSay, rowsWalk, answers}
 
 -- the table's word, and what it says
 
@@ -38,6 +46,23 @@ by-yes Yes = refl
 by-yes WrongKind = refl
 by-yes (Unmet n) = refl
 
+-- where the walk along two rows ends: what they say, and the rule's count
+module _ {w : List ℕ} (h : Whole w) (a b : ℕ) {r : Walk} (e : some r ≡ rowsWalk w a b) where
+  ended : r ≡ record { answer = rowsSay w a b; passed = passed (rowsSay w a b) ((rowOf w a) .members) ((rowOf w b) .members) }
+  ended = let at = e ∙ row-enough (tells w) (turnsOf (rowOf w a) (rowOf w b)) (rowOf w a) (rowOf w b) (h .sheet .rows a .names) (h .sheet .rows b .names) (omega arith) in cc
+
+  pub walk-says : r .answer ≡ rowsSay w a b
+  walk-says = ap (λ (t : Walk). t .answer) ended
+
+  pub walk-passed : r .passed ≡ passed (rowsSay w a b) ((rowOf w a) .members) ((rowOf w b) .members)
+  walk-passed = ap (λ (t : Walk). t .passed) ended
+
+  -- a row has at most 8 members
+  pub passed-few : r .passed ≤ 8
+  passed-few =
+      let most = passed-most (rowsSay w a b) ((rowOf w a) .members) ((rowOf w b) .members) in let few = h .sheet .rows a .few in
+      omega (arith, walk-passed)
+
 -- where the table is filled, rows and table say what fit answers
 module _ (w w′ : List ℕ) (f : FitFilled (cell w rowCountAt) w w′) (well : WellFormed (sheetIn w)) (a b : ℕ) (h : a < length ((sheetIn w) .rows)) (k : b < length ((sheetIn w) .rows)) where
   told : (c d : ℕ) → c < length ((sheetIn w) .rows) → d < length ((sheetIn w) .rows) → tells w′ c d ≡ fits ((sheetIn w) .rows) c d
@@ -49,6 +74,12 @@ module _ (w w′ : List ℕ) (f : FitFilled (cell w rowCountAt) w w′) (well : 
       ap (λ (s : Sheet). rowAnswer (tells w′) (rowAt (s .rows) a) (rowAt (s .rows) b)) (filled-sheet (cell w rowCountAt) w w′ f)
       ∙ row-agree (tells w′) (fits rows) a b (λ m n p q. (told m n (omega arith) (omega arith), told n m (omega arith) (omega arith))) (rowAt rows a) (rowAt rows b) (well .rows a .lower) (well .rows b .lower)
       ∙ sym (fit-rule rows (λ i. well .rows i .lower) a b)
+
+  -- and the walk passes what it passes by that answer
+  pub sheet-passed : Whole w′ → {r : Walk} → some r ≡ rowsWalk w′ a b → r .passed ≡ passedIn (sheetIn w) a b (Answered (fitAnswer ((sheetIn w) .rows) a b))
+  sheet-passed whole e =
+      walk-passed whole a b e
+      ∙ ap₂ (λ (x : FitAnswer) (s : Sheet). passedIn s a b (Answered x)) sheet-rows (filled-sheet (cell w rowCountAt) w w′ f)
 
   pub sheet-answers : answers w′ a b ≡ fitAnswer ((sheetIn w) .rows) a b
   unfolding answers fits

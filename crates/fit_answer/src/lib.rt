@@ -1,24 +1,33 @@
 // Fit's answer on two rows, by one walk along both, with the fit table's word on the rows that their members mention.
+ghost use mathlib.Core.Option.{some};
 ghost use mathlib.Core.Path.{_≡_};
 ghost use Rattle.table.specs.Whole.{Whole};
-ghost use Rattle.fit_answer.specs.Told.{membersSay, rowsSay};
+ghost use Rattle.fit_answer.specs.Told.{membersWalk, rowsWalk, rowsSay};
 use sheet_rules::FitAnswer;
 use sheet_rules::Kind;
+use type_rules::Walk;
 
-// The lowest member of row b that has no match in row a, if there is one. Names ascend in both rows, so one walk is enough, of at most
-// one turn for each member of a and one more.
-fn walk(work: &[u16], a: usize, b: usize) -> FitAnswer
+// The walk along the members of rows a and b, to the lowest of b that has no match in a, or to b's end. Names ascend in both rows, so
+// it takes at most as many turns as the two have members together: row b is at its end when these are spent.
+fn walk_members(work: &[u16], a: usize, b: usize) -> Walk
     requires { ⌜ Whole (now work) ⌝ }
-    ensures { λ r. ⌜ r ≡ membersSay (now (work .entry)) a b ⌝ }
+    ensures { λ r. ⌜ some r ≡ membersWalk (now (work .entry)) a b ⌝ }
 {
     let across = table::rows::members_at(work, a);
     let down = table::rows::members_at(work, b);
     let mut i = 0;
     let mut j = 0;
-    while j < down {
+    for _ in 0..across + down {
+        if down <= j {
+            return Walk {
+                answer: FitAnswer::Yes,
+                passed: i,
+            };
+        }
         let name = table::rows::member_name(work, b, j);
+        let answer = FitAnswer::Unmet { name };
         if across <= i {
-            return FitAnswer::Unmet { name };
+            return Walk { answer, passed: i };
         }
         let given = table::rows::member_name(work, a, i);
         if given < name {
@@ -26,27 +35,44 @@ fn walk(work: &[u16], a: usize, b: usize) -> FitAnswer
             continue;
         }
         if name < given {
-            return FitAnswer::Unmet { name };
+            return Walk { answer, passed: i };
         }
         if fit::match_at(work, a, i, b, j) % 2 == 0 {
-            return FitAnswer::Unmet { name };
+            return Walk {
+                answer,
+                passed: i + 1,
+            };
         }
         i = i + 1;
         j = j + 1;
     }
-    FitAnswer::Yes
+    Walk {
+        answer: FitAnswer::Yes,
+        passed: i,
+    }
 }
 
-// What the two rows say: kinds first, then members.
+// The walk along two rows: kinds first, then members.
+pub fn walk(work: &[u16], a: usize, b: usize) -> Walk
+    requires { ⌜ Whole (now work) ⌝ }
+    ensures { λ r. ⌜ some r ≡ rowsWalk (now (work .entry)) a b ⌝ }
+{
+    match table::rows::kind_at(work, a) {
+        Kind::Pure => walk_members(work, a, b),
+        Kind::Resource => match table::rows::kind_at(work, b) {
+            Kind::Pure => Walk {
+                answer: FitAnswer::WrongKind,
+                passed: 0,
+            },
+            Kind::Resource => walk_members(work, a, b),
+        },
+    }
+}
+
+// What the two rows say.
 pub fn answer(work: &[u16], a: usize, b: usize) -> FitAnswer
     requires { ⌜ Whole (now work) ⌝ }
     ensures { λ r. ⌜ r ≡ rowsSay (now (work .entry)) a b ⌝ }
 {
-    match table::rows::kind_at(work, a) {
-        Kind::Pure => walk(work, a, b),
-        Kind::Resource => match table::rows::kind_at(work, b) {
-            Kind::Pure => FitAnswer::WrongKind,
-            Kind::Resource => walk(work, a, b),
-        },
-    }
+    walk(work, a, b).answer
 }

@@ -3,8 +3,7 @@ ghost use Rattle.sheet_rules.specs.declared.FormReply.{FormReply as FormReplied
 ghost use Rattle.sheet_rules.specs.declared.Reason.the-variants.{BufferTooShort};
 ghost use Rattle.sheet_rules.specs.declared.Verdict.{Verdict as VerdictGiven};
 ghost use Rattle.sheet_rules.specs.Stretch.{formReply};
-ghost use Rattle.type_rules.specs.declared.FitReply.{FitReply as FitAnswered};
-ghost use Rattle.type_rules.specs.FitQuestion.{fitReply};
+ghost use Rattle.type_rules.specs.FitQuestion.{fitTold, toldRefused};
 ghost use Rattle.type_rules.specs.Typing.{verdict};
 ghost use Rattle.bound_rules.specs.declared.BoundReply.{BoundReply as BoundReplied};
 ghost use Rattle.bound_rules.specs.BoundQuestion.{boundReply};
@@ -27,10 +26,10 @@ use results::ReportResult;
 use results::RunResult;
 use results::VerdictResult;
 
-// Whether row a of a text's sheet fits row b, and what is lacking if not.
+// Whether row a of a text's sheet fits row b, what is lacking if not, and how many members of row a the walk passed.
 #[no_mangle]
 pub extern "C" fn lexondar_fit(text: &[u8], a: usize, b: usize, work: &mut [u16]) -> FitResult
-    ensures { λ r. ⌜ AskedAlone (fitResult (fitReply (now (text .entry)) a b)) (fitResult (FitAnswered.Refused BufferTooShort 0)) (now (work .entry)) (now (work .exit)) r ⌝ }
+    ensures { λ r. ⌜ AskedAlone (fitResult (fitTold (now (text .entry)) a b)) (fitResult (toldRefused BufferTooShort 0)) (now (work .entry)) (now (work .exit)) r ⌝ }
 {
     results::fit_result(fit_question::ask_fit(text, a, b, work))
 }

@@ -1,4 +1,4 @@
--- What the library's answers are in numbers, as a caller in C has them (document 01, Turned away; document 02, orders 2 to 4). Each begins
+-- What the library's answers are in numbers, as a caller in C has them (document 01, Turned away; document 02, orders 2 to 5). Each begins
 -- with four: a refusal's number and line, or 0 and 0; and what is lacking, with the name if it is a member. Stands on the answers.
 use Prim.Native.Nat.{ℕ}
 use mathlib.Core.Bool.{cond}
@@ -8,6 +8,7 @@ use Rattle.sheet_rules.specs.declared.Verdict.{Verdict}
 use Rattle.sheet_rules.specs.Answers.{numberOf, verdictNumber, verdictLine, reasonLack, verdictLack, answerLack, lackNumber, lackName, isYes}
 use Rattle.sheet_rules.specs.Stretch.{replyNumber, replyLine, replyLack, stretchStart, stretchLength}
 use Rattle.type_rules.specs.declared.FitReply.{FitReply}
+use Rattle.type_rules.specs.declared.FitTold.{FitTold}
 use Rattle.machine_rules.specs.declared.RunReply.{RunReply}
 use Rattle.machine_rules.specs.Steps.{outcomeNumber}
 use Rattle.bound_rules.specs.declared.BoundReply.{BoundReply}
@@ -21,14 +22,19 @@ use Rattle.results.specs.declared.ReportResult.{ReportResult}
 use Rattle.results.specs.declared.FormResult.{FormResult}
 use Rattle.results.specs.declared.BoundResult.{BoundResult}
 
--- fit's answer: 1 for yes, and what is lacking for no (document 02, order 3)
-abbrev pub answerResult : FitAnswer → FitResult
-answerResult x = record { refusal = 0; line = 0; lack = lackNumber (answerLack x); name = lackName (answerLack x); fits = cond (isYes x) 1 0 }
+-- fit's answer, n members of row a passed: 1 for yes, and what is lacking for no (document 02, orders 3 and 5)
+abbrev pub answerResult : FitAnswer → ℕ → FitResult
+answerResult x n =
+    record { refusal = 0; line = 0; lack = lackNumber (answerLack x); name = lackName (answerLack x); fits = cond (isYes x) 1 0; passed = n }
 
--- the fit question: its answer, or a refusal's numbers
-abbrev pub fitResult : FitReply → FitResult
-fitResult (FitReply.Answered x) = answerResult x
-fitResult (FitReply.Refused r n) = record { refusal = numberOf r; line = n; lack = lackNumber (reasonLack r); name = lackName (reasonLack r); fits = 0 }
+-- the fit question: its reply, an answer or a refusal's numbers, and the members passed
+abbrev pub fitReplyResult : FitReply → ℕ → FitResult
+fitReplyResult (FitReply.Answered x) n = answerResult x n
+fitReplyResult (FitReply.Refused r l) n =
+    record { refusal = numberOf r; line = l; lack = lackNumber (reasonLack r); name = lackName (reasonLack r); fits = 0; passed = n }
+
+abbrev pub fitResult : FitTold → FitResult
+fitResult t = fitReplyResult (t .reply) (t .passed)
 
 -- the verdict: the paper's number and line, 0 and 0 when accepted, and what is lacking
 abbrev pub verdictResult : Verdict → VerdictResult

@@ -14,10 +14,12 @@ use sheet_rules::FitAnswer;
 use sheet_rules::FormReply;
 use sheet_rules::Verdict;
 use type_rules::FitReply;
+use type_rules::FitTold;
 
 pub mod numbers;
 
-// The answer of the fit question: a refusal's numbers, or 0, 0, what is lacking, its name, and whether row a fits row b.
+// The answer of the fit question: a refusal's numbers, or 0, 0, what is lacking, its name, whether row a fits row b, and how many
+// members of row a the walk passed.
 #[repr(C)]
 pub struct FitResult {
     pub refusal: u32,
@@ -25,6 +27,7 @@ pub struct FitResult {
     pub lack: u32,
     pub name: u32,
     pub fits: u32,
+    pub passed: u32,
 }
 
 // The verdict on a sheet: four times 0, or a refusal's numbers.
@@ -95,9 +98,9 @@ pub struct BoundResult {
     pub steps: u32,
 }
 
-// Fit's answer in numbers.
-fn answered(answer: FitAnswer) -> FitResult
-    ensures { λ r. ⌜ r ≡ answerResult answer ⌝ }
+// Fit's answer in numbers, with the members of row a that were passed.
+fn answered(answer: FitAnswer, passed: u32) -> FitResult
+    ensures { λ r. ⌜ r ≡ answerResult answer passed ⌝ }
 {
     match answer {
         FitAnswer::Yes => FitResult {
@@ -106,6 +109,7 @@ fn answered(answer: FitAnswer) -> FitResult
             lack: 0,
             name: 0,
             fits: 1,
+            passed,
         },
         FitAnswer::WrongKind => FitResult {
             refusal: 0,
@@ -113,6 +117,7 @@ fn answered(answer: FitAnswer) -> FitResult
             lack: 2,
             name: 0,
             fits: 0,
+            passed,
         },
         FitAnswer::Unmet { name } => FitResult {
             refusal: 0,
@@ -120,22 +125,26 @@ fn answered(answer: FitAnswer) -> FitResult
             lack: 3,
             name: name as u32,
             fits: 0,
+            passed,
         },
     }
 }
 
-// The fit question's reply in numbers.
-pub fn fit_result(reply: FitReply) -> FitResult
-    ensures { λ r. ⌜ r ≡ fitResult reply ⌝ }
+// What the fit question tells, in numbers.
+pub fn fit_result(told: FitTold) -> FitResult
+    ensures { λ r. ⌜ r ≡ fitResult told ⌝ }
 {
+    let reply = told.reply;
+    let passed = told.passed;
     match reply {
-        FitReply::Answered { answer } => answered(answer),
+        FitReply::Answered { answer } => answered(answer, passed),
         FitReply::Refused { reason, line } => FitResult {
             refusal: number_of(reason),
             line,
             lack: lack_of(reason),
             name: name_of(reason),
             fits: 0,
+            passed,
         },
     }
 }

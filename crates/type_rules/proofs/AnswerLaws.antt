@@ -31,19 +31,19 @@ use Rattle.type_rules.proofs.FitLaws.{members-at, fit-rule}
 
 -- THE MEMBERS
 
-names-above : {i : ℕ} {ys : List Member} → NamesAscend i ys → {z : Member} → In z ys → i ≤ nameOf z
+pub names-above : {i : ℕ} {ys : List Member} → NamesAscend i ys → {z : Member} → In z ys → i ≤ nameOf z
 names-above {i} (above h r) (here e) = subst (λ (y : Member). i ≤ nameOf y) (sym e) h
 names-above (above h r) (there j) = let k = names-above r j in omega arith
 
 -- the lowest member without a match
-record Lowest (fit : ℕ → ℕ → Bool) (xs ys : List Member) (n : ℕ) : Type 0 where
-  member : Member
-  among : In member ys
-  named : nameOf member ≡ n
-  unmet : T (hasMatch fit xs member) → ⊥
-  lower : (z : Member) → In z ys → nameOf z < n → T (hasMatch fit xs z)
+pub record Lowest (fit : ℕ → ℕ → Bool) (xs ys : List Member) (n : ℕ) : Type 0 where
+  pub member : Member
+  pub among : In member ys
+  pub named : nameOf member ≡ n
+  pub unmet : T (hasMatch fit xs member) → ⊥
+  pub lower : (z : Member) → In z ys → nameOf z < n → T (hasMatch fit xs z)
 
-lowest : (fit : ℕ → ℕ → Bool) (xs ys : List Member) {i n : ℕ} → NamesAscend i ys → membersAnswer fit xs ys ≡ Unmet n → Lowest fit xs ys n
+pub lowest : (fit : ℕ → ℕ → Bool) (xs ys : List Member) {i n : ℕ} → NamesAscend i ys → membersAnswer fit xs ys ≡ Unmet n → Lowest fit xs ys n
 unfolding membersAnswer
 lowest fit xs [] a e = clash (cc)
 lowest fit xs (y ∷ ys) {n = n} (above h r) e = go (λ q. lowest fit xs ys r q) (hasMatch fit xs y) refl e
@@ -66,7 +66,7 @@ lowest fit xs (y ∷ ys) {n = n} (above h r) e = go (λ q. lowest fit xs ys r q)
         below z (here c) k = let d : nameOf z ≡ nameOf y = ap nameOf c in absurd (omega (arith, is))
         below z (there j) k = let d = names-above r j in absurd (omega (arith, is))
 
-no-kind : (fit : ℕ → ℕ → Bool) (xs ys : List Member) → membersAnswer fit xs ys ≡ WrongKind → ⊥
+pub no-kind : (fit : ℕ → ℕ → Bool) (xs ys : List Member) → membersAnswer fit xs ys ≡ WrongKind → ⊥
 unfolding membersAnswer
 no-kind fit xs [] e = clash (cc)
 no-kind fit xs (y ∷ ys) e = go (no-kind fit xs ys) (hasMatch fit xs y) e

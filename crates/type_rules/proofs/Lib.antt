@@ -3,6 +3,8 @@ pub mod TypingCases
 pub mod FitLaws
 pub mod AnswerLaws
 pub mod WalkLaws
+pub mod EnoughLaws
+pub mod PassedCases
 pub mod TypingLaws
 pub mod LookUpLaws
 pub mod TypedLaws

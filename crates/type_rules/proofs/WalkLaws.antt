@@ -1,4 +1,5 @@
--- The rule of fit as one walk along two lists of members whose names ascend: a law for each turn and each end. Assumes nothing.
+-- The rule of fit as one walk along two lists of members whose names ascend: a law for each turn and each end, on lists and from two
+-- places of them on. Assumes nothing.
 use Prim.Native.Nat.{ℕ, zero, suc, _+_, _≤_, _<_}
 use native.Mathlib.Omega.{arith}
 use native.Mathlib.Numerals.{add-one}
@@ -29,7 +30,7 @@ ascend-drop zero a = a
 ascend-drop (suc n) end = end
 ascend-drop (suc n) (above h r) = ascend-drop n (ascend-from (omega arith) r)
 
-after : {i : ℕ} {x : Member} {xs : List Member} → NamesAscend i (x ∷ xs) → NamesAscend (suc (nameOf x)) xs
+pub after : {i : ℕ} {x : Member} {xs : List Member} → NamesAscend i (x ∷ xs) → NamesAscend (suc (nameOf x)) xs
 after (above h r) = r
 
 -- members of different names never match, so those of higher names have no say
@@ -55,16 +56,42 @@ unneeded f x xs l (above {x = y} {xs = ys} h r) =
     ap₂ (λ (b : Bool) (t : FitAnswer). cond (b || hasMatch f xs y) t (Unmet (nameOf y))) (other-name f x y (λ e. omega arith))
     (unneeded f x xs (omega arith) r)
 
+-- two lists that begin with x and y
+module _ (f : ℕ → ℕ → Bool) {x y : Member} {xs ys : List Member} {i j : ℕ} (p : NamesAscend i (x ∷ xs)) (q : NamesAscend j (y ∷ ys)) where
+  -- x is not asked for
+  pub answer-skip : nameOf x < nameOf y → membersAnswer f (x ∷ xs) (y ∷ ys) ≡ membersAnswer f xs (y ∷ ys)
+  answer-skip l = unneeded f x xs l (above {i = nameOf y} {x = y} (omega arith) (after q))
+
+  -- y is lacking
+  pub answer-lack : nameOf y < nameOf x → membersAnswer f (x ∷ xs) (y ∷ ys) ≡ Unmet (nameOf y)
+  unfolding membersAnswer
+  answer-lack l =
+      ap (λ (b : Bool). cond b (membersAnswer f (x ∷ xs) ys) (Unmet (nameOf y)))
+      (none-above f y l (above {i = nameOf x} {x = x} (omega arith) (after p)))
+
+  -- both have one name
+  pub answer-both : nameOf x ≡ nameOf y → membersAnswer f (x ∷ xs) (y ∷ ys) ≡ cond (matches f x y) (membersAnswer f xs ys) (Unmet (nameOf y))
+  unfolding membersAnswer hasMatch
+  answer-both e =
+      ap₂ (λ (b : Bool) (t : FitAnswer). cond (matches f x y || b) t (Unmet (nameOf y)))
+      (none-above f y (omega arith) (after p))
+      (unneeded f x xs (omega arith) (after q))
+      ∙ go (matches f x y) (membersAnswer f xs ys)
+    where
+      go : (b : Bool) (t : FitAnswer) → cond (b || false) t (Unmet (nameOf y)) ≡ cond b t (Unmet (nameOf y))
+      go true t = refl
+      go false t = refl
+
 -- the answer on the members from j on of one list, where those from i on of the other may match
 unfoldable pub answerFrom : (ℕ → ℕ → Bool) → List Member → List Member → ℕ → ℕ → FitAnswer
 answerFrom f xs ys i j = membersAnswer f (drop i xs) (drop j ys)
 
 -- a list from member i on: none, or member i and those after it
 
-past : (xs : List Member) (i : ℕ) → length xs ≤ i → drop i xs ≡ []
+pub past : (xs : List Member) (i : ℕ) → length xs ≤ i → drop i xs ≡ []
 past xs i h = drop-of-length-le xs h
 
-from : (xs : List Member) (i : ℕ) → i < length xs → drop i xs ≡ getD xs i noMember ∷ drop (i + 1) xs
+pub from : (xs : List Member) (i : ℕ) → i < length xs → drop i xs ≡ getD xs i noMember ∷ drop (i + 1) xs
 from xs i h = drop-cons xs i noMember h ∙ ap (λ (k : ℕ). getD xs i noMember ∷ drop k xs) (sym (add-one i))
 
 ascend-at : (xs : List Member) (i : ℕ) → NamesAscend 0 xs → i < length xs → NamesAscend 0 (getD xs i noMember ∷ drop (i + 1) xs)
@@ -95,30 +122,15 @@ module _ (f : ℕ → ℕ → Bool) (xs ys : List Member) (i j : ℕ) where
     -- member i is not asked for
     pub walk-skip : nameOf (getD xs i noMember) < nameOf (getD ys j noMember) → answerFrom f xs ys i j ≡ answerFrom f xs ys (i + 1) j
     unfolding answerFrom x y
-    walk-skip l =
-        opened
-        ∙ unneeded f x (drop (i + 1) xs) l (above {i = nameOf y} {x = y} (omega arith) (after (ascend-at ys j q k)))
-        ∙ ap (membersAnswer f (drop (i + 1) xs)) (sym (from ys j k))
+    walk-skip l = opened ∙ answer-skip f (ascend-at xs i p h) (ascend-at ys j q k) l ∙ ap (membersAnswer f (drop (i + 1) xs)) (sym (from ys j k))
 
     -- member j is lacking
     pub walk-lack : nameOf (getD ys j noMember) < nameOf (getD xs i noMember) → answerFrom f xs ys i j ≡ Unmet (nameOf (getD ys j noMember))
-    unfolding membersAnswer x y
-    walk-lack l =
-        opened
-        ∙ ap (λ (b : Bool). cond b (membersAnswer f (x ∷ drop (i + 1) xs) (drop (j + 1) ys)) (Unmet (nameOf y)))
-        (none-above f y l (above {i = nameOf x} {x = x} (omega arith) (after (ascend-at xs i p h))))
+    unfolding x y
+    walk-lack l = opened ∙ answer-lack f (ascend-at xs i p h) (ascend-at ys j q k) l
 
     -- both have one name
     pub walk-both : nameOf (getD xs i noMember) ≡ nameOf (getD ys j noMember)
         → answerFrom f xs ys i j ≡ cond (matches f (getD xs i noMember) (getD ys j noMember)) (answerFrom f xs ys (i + 1) (j + 1)) (Unmet (nameOf (getD ys j noMember)))
-    unfolding answerFrom membersAnswer hasMatch x y
-    walk-both e =
-        opened
-        ∙ ap₂ (λ (b : Bool) (t : FitAnswer). cond (matches f x y || b) t (Unmet (nameOf y)))
-        (none-above f y (omega arith) (after (ascend-at xs i p h)))
-        (unneeded f x (drop (i + 1) xs) (omega arith) (after (ascend-at ys j q k)))
-        ∙ go (matches f x y) (membersAnswer f (drop (i + 1) xs) (drop (j + 1) ys))
-      where
-        go : (b : Bool) (t : FitAnswer) → cond (b || false) t (Unmet (nameOf y)) ≡ cond b t (Unmet (nameOf y))
-        go true t = refl
-        go false t = refl
+    unfolding answerFrom x y
+    walk-both e = opened ∙ answer-both f (ascend-at xs i p h) (ascend-at ys j q k) e

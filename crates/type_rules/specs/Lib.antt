@@ -1,5 +1,7 @@
 pub mod Fit
 pub mod Says
+pub mod Passed
+pub mod Walk
 pub mod FitQuestion
 pub mod Typing
 pub mod Typed

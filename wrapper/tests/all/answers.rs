@@ -1,7 +1,7 @@
 //! The wrapper on the paper's sheet, and on the example of each refusal.
 
 use lexondar::{authority, bound, fit, form, group, report, run, verdict};
-use lexondar::{Fit, Held, Holders, Lack, Outcome, Reason, Refusal, Run, Work, MAIN};
+use lexondar::{Fit, Held, Holders, Lack, Outcome, Reason, Refusal, Run, Walk, Work, MAIN};
 
 const CLERK: &[u8] = include_bytes!("../../../examples/clerk.sheet");
 const MAKERS: &[u8] = include_bytes!("../../../examples/makers.sheet");
@@ -24,9 +24,22 @@ fn the_clerk_is_accepted_and_runs() {
         objects: 3,
     };
     assert_eq!(run(CLERK, 7, &mut work), Ok(spent));
-    assert_eq!(fit(CLERK, 1, 1, &mut work), Ok(Fit::Yes));
-    assert_eq!(fit(CLERK, 1, 0, &mut work), Ok(Fit::Kind));
-    assert_eq!(fit(CLERK, 1, 2, &mut work), Ok(Fit::Member(2)));
+}
+
+#[test]
+fn the_clerk_s_rows_fit_as_far_as_they_are_passed() {
+    let mut work = Work::new();
+    let cases = [
+        (1, 1, Fit::Yes, 1),
+        (1, 0, Fit::Kind, 0),
+        (0, 1, Fit::Member(1), 0),
+        // Method 1 is passed, and method 2 is not there.
+        (1, 2, Fit::Member(2), 1),
+    ];
+    for (a, b, fits, passed) in cases {
+        let walk = Walk { fit: fits, passed };
+        assert_eq!(fit(CLERK, a, b, &mut work), Ok(walk), "{a} and {b}");
+    }
 }
 
 #[test]
@@ -187,8 +200,8 @@ fn what_is_lacking_is_said_in_words() {
         (1, 2, "row 2 asks for field 4"),
     ];
     for (a, b, words) in cases {
-        let answer = fit(ROWS, a, b, &mut work).expect("both rows are there");
-        assert_eq!(answer.words(ROWS, a, b), words);
+        let walk = fit(ROWS, a, b, &mut work).expect("both rows are there");
+        assert_eq!(walk.fit.words(ROWS, a, b), words);
     }
 }
 

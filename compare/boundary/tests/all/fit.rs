@@ -1,13 +1,13 @@
 //! The reading pass and the fit question against the second program.
 
 use crate::common::{is_left_clean, noise};
-use crate::refused::{answer_of, fit_of, SHORT};
+use crate::refused::{fit_of, told_of, SHORT};
 use boundary::{fit, four, FitResult, WORK};
-use second::{FitAnswer, Refusal};
+use second::{FitTold, Refusal, Sheet};
 
-fn wanted(answer: Result<FitAnswer, Refusal>) -> FitResult {
-    match answer {
-        Ok(answer) => answer_of(answer),
+fn wanted(told: Result<FitTold, Refusal>) -> FitResult {
+    match told {
+        Ok(told) => told_of(told),
         Err(refusal) => fit_of(four(refusal)),
     }
 }
@@ -35,25 +35,31 @@ fn reading_agrees_on_20000_sheets() {
     }
 }
 
+/// Asks for every two rows of a sheet; how often each thing was lacking, and
+/// how often each number of members was passed.
+fn compare_pairs(text: &[u8], sheet: &Sheet, name: &str, lacks: &mut [u32], counts: &mut [u32]) {
+    let rows = sheet.rows.len() as u16;
+    let table = second::fit::FitTable::of(&sheet.rows);
+    let mut work = noise(text.len() as u64, WORK);
+    for (a, b) in (0..rows).flat_map(|a| (0..rows).map(move |b| (a, b))) {
+        let answer = fit(text, a.into(), b.into(), &mut work);
+        let told = table.told(&sheet.rows, a, b);
+        assert_eq!(answer, told_of(told), "{name}, rows {a} and {b}");
+        lacks[answer.lack as usize] += 1;
+        counts[answer.passed as usize] += 1;
+    }
+}
+
 #[test]
 fn all_pairs_of_rows_agree_on_300_sheets() {
-    let (mut sheets, mut lacks) = (0, [0_u32; 4]);
+    let (mut sheets, mut lacks, mut counts) = (0, [0; 4], [0; 9]);
     for index in 0.. {
         let text = generator::sheet(32, index);
         let Ok(sheet) = second::read(&text) else {
             continue;
         };
-        let rows = sheet.rows.len() as u16;
-        let table = second::fit::FitTable::of(&sheet.rows);
-        let mut work = noise(index + 1, WORK);
-        for a in 0..rows {
-            for b in 0..rows {
-                let answer = fit(&text, a.into(), b.into(), &mut work);
-                let name = format!("sheet {index}, rows {a} and {b}");
-                assert_eq!(answer, wanted(Ok(table.answer(a, b))), "{name}");
-                lacks[answer.lack as usize] += 1;
-            }
-        }
+        let name = format!("sheet {index}");
+        compare_pairs(&text, &sheet, &name, &mut lacks, &mut counts);
         sheets += 1;
         if sheets == 300 {
             break;
@@ -62,6 +68,19 @@ fn all_pairs_of_rows_agree_on_300_sheets() {
     let [yes, count, kind, member] = lacks;
     assert!(yes.min(kind).min(member) > 1_000, "{lacks:?}");
     assert_eq!(count, 0);
+    assert!(counts[..8].iter().all(|met| *met > 100), "{counts:?}");
+}
+
+#[test]
+fn all_pairs_of_rows_agree_on_30_wide_sheets() {
+    let (mut lacks, mut counts) = ([0; 4], [0; 9]);
+    for index in 0..30 {
+        let text = generator::wide(33, index);
+        let sheet = second::read(&text).expect("a readable sheet");
+        let name = format!("wide sheet {index}");
+        compare_pairs(&text, &sheet, &name, &mut lacks, &mut counts);
+    }
+    assert!(counts.iter().all(|met| *met > 500), "{counts:?}");
 }
 
 #[test]

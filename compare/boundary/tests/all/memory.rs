@@ -96,7 +96,7 @@ impl Sum {
         self.add_fields(&g, &[g.steps]);
         for budget in [0, 300] {
             let g = fit(text, 1, 0, &mut work);
-            self.add_fields(&g, &[g.fits]);
+            self.add_fields(&g, &[g.fits, g.passed]);
             self.add_forms(text, &mut work);
             let g = run(text, budget, &mut work);
             self.add_fields(&g, &[g.outcome, g.steps, g.value, g.objects]);

@@ -44,16 +44,15 @@ fn a_sheet_without_its_last_byte_is_refused_at_its_last_line() {
 #[test]
 fn the_paper_s_rows_fit_as_it_says() {
     let cases = [
-        ("2", "3", "1"),
-        ("3", "2", "0,2"),
-        ("0", "1", "1"),
-        ("1", "0", "0,2"),
-        ("4", "5", "0,3,1"),
-        ("5", "4", "0,3,1"),
+        ("2", "3", "fit=1\npassed=1\n"),
+        ("3", "2", "fit=0,2\npassed=0\n"),
+        ("0", "1", "fit=1\npassed=0\n"),
+        ("1", "0", "fit=0,2\npassed=0\n"),
+        ("4", "5", "fit=0,3,1\npassed=1\n"),
+        ("5", "4", "fit=0,3,1\npassed=1\n"),
     ];
-    for (a, b, fit) in cases {
-        let answer = run(&["fit", a, b], ROWS);
-        assert_eq!(answer, format!("fit={fit}\n"), "{a} and {b}");
+    for (a, b, lines) in cases {
+        assert_eq!(run(&["fit", a, b], ROWS), lines, "{a} and {b}");
     }
     assert_eq!(run(&["fit", "6", "0"], ROWS), "verdict=7\nline=0\n");
 }

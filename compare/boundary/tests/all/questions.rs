@@ -5,7 +5,7 @@ use crate::bound::most_of;
 use crate::common::{budget_for, draw, is_left_clean, is_written, noise};
 use crate::form::stretch_of;
 use crate::refused::{
-    answer_of, bound_of, fit_of, form_of, held_of, report_of, run_of, verdict_of, NONE, SHORT,
+    bound_of, fit_of, form_of, held_of, report_of, run_of, told_of, verdict_of, NONE, SHORT,
 };
 use boundary::{
     authority, bound, entries, fit, form, four, group, report, run, verdict, AuthorityResult,
@@ -64,17 +64,30 @@ impl Case<'_> {
         is_left_clean(&work, &work_entry, &name);
     }
 
+    /// Two pairs of rows of a sheet that can be read; of eight sheets, one has
+    /// a number over its rows in its second pair.
     fn ask_fit(&self, seen: &mut Lengths) {
-        let row = |salt: u64| match draw(self.seed ^ salt) % 40 {
-            0 => u32::MAX,
-            drawn => (drawn % 12) as u32,
+        let Ok(sheet) = second::read(self.text) else {
+            return self.ask_pair(10, (0, 0), seen);
         };
-        let (a, b) = (row(101), row(102));
+        let rows = sheet.rows.len() as u16;
+        let [first, (a, b)] = generator::pairs(91, self.seed, rows);
+        self.ask_pair(10, (first.0.into(), first.1.into()), seen);
+        let second = match draw(self.seed ^ 101) % 16 {
+            0 => (a.into(), rows.into()),
+            1 => (u32::MAX, b.into()),
+            _ => (a.into(), b.into()),
+        };
+        self.ask_pair(12, second, seen);
+    }
+
+    fn ask_pair(&self, salt: u64, (a, b): (u32, u32), seen: &mut Lengths) {
         let wanted = match second::fit(self.text, a, b) {
-            Ok(answer) => answer_of(answer),
+            Ok(told) => told_of(told),
             Err(refusal) => fit_of(four(refusal)),
         };
-        self.ask((10, 0), (wanted, &[]), fit_of(SHORT), seen, |work, _| {
+        let (asked, short) = ((salt, 0), fit_of(SHORT));
+        self.ask(asked, (wanted, &[]), short, seen, |work, _| {
             fit(self.text, a as usize, b as usize, work)
         });
     }

@@ -4,7 +4,7 @@
 use boundary::{lacking, Four};
 use boundary::{AuthorityResult, BoundResult, FitResult, FormResult};
 use boundary::{ReportResult, RunResult, VerdictResult};
-use second::FitAnswer;
+use second::{FitAnswer, FitTold};
 
 /// Nothing is refused and nothing is lacking.
 pub const NONE: Four = [0; 4];
@@ -19,14 +19,16 @@ pub fn fit_of([refusal, line, lack, name]: Four) -> FitResult {
         lack,
         name,
         fits: 0,
+        passed: 0,
     }
 }
 
 /// Fit's answer by the second program.
-pub fn answer_of(answer: FitAnswer) -> FitResult {
+pub fn told_of(FitTold { answer, passed }: FitTold) -> FitResult {
     let [lack, name] = lacking(answer.lack());
     FitResult {
         fits: (answer == FitAnswer::Yes).into(),
+        passed,
         ..fit_of([0, 0, lack, name])
     }
 }

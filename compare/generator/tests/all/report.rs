@@ -80,6 +80,8 @@ fn the_program_writes_sheets_and_reports() {
     assert_eq!(text.stdout, generator::readable(8, 3));
     let text = program(&["strict", "8", "3"]);
     assert_eq!(text.stdout, generator::strict(8, 3));
+    let text = program(&["wide", "8", "3"]);
+    assert_eq!(text.stdout, generator::wide(8, 3));
     let told = program(&["report", "2", "1500"]);
     assert_eq!(told.status.code(), Some(0));
     assert_eq!(told.stdout, report(2, 1_500).lines().into_bytes());
@@ -87,7 +89,7 @@ fn the_program_writes_sheets_and_reports() {
 
 #[test]
 fn wrong_command_lines() {
-    let cases: [&[&str]; 9] = [
+    let cases: [&[&str]; 11] = [
         &[],
         &["1"],
         &["1", "x"],
@@ -96,6 +98,8 @@ fn wrong_command_lines() {
         &["mill", "1", "x"],
         &["readable", "1", "x"],
         &["strict", "1", "x"],
+        &["wide", "1", "x"],
+        &["wider", "1", "2"],
         &["a", "b", "c"],
     ];
     for words in cases {

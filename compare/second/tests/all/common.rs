@@ -14,6 +14,14 @@ pub fn sheet(lines: &str) -> Vec<u8> {
     text
 }
 
+/// A sheet with the rows 0 pure empty, 1 resource empty and then the given
+/// ones, and a main that typing would refuse.
+pub fn rows_sheet(rows: &str) -> Vec<u8> {
+    let count = 2 + rows.matches("type=").count();
+    let text = format!("types={count} / type=0,0 / type=1,0 / {rows} / forms=0 / main=1 / get=0");
+    sheet(&text)
+}
+
 /// The text with line `place`, counted from 1, exchanged.
 pub fn with_line(text: &[u8], place: usize, line: &str) -> Vec<u8> {
     let text = std::str::from_utf8(text).expect("a sheet is plain text");

@@ -2,14 +2,13 @@
 
 use crate::common::*;
 use second::FitAnswer::{Kind, Member, Yes};
-use second::{fit, FitAnswer, Lack};
+use second::{fit, FitAnswer, FitTold, Lack};
 use std::fmt::Write;
 
 /// Rows 0 pure empty, 1 resource empty and then the given ones.
 fn answer(rows: &str, a: u32, b: u32) -> FitAnswer {
-    let count = 2 + rows.matches("type=").count();
-    let text = format!("types={count} / type=0,0 / type=1,0 / {rows} / forms=0 / main=1 / get=0");
-    fit(&sheet(&text), a, b).expect("a sheet that reads")
+    let told = fit(&rows_sheet(rows), a, b).expect("a sheet that reads");
+    told.answer
 }
 
 /// The answer for each of the pairs.
@@ -135,6 +134,7 @@ fn each_pair_is_settled_once() {
         }
     }
     text += "forms=0\nmain=1\nget=0\n";
-    assert_eq!(fit(text.as_bytes(), 62, 63), Ok(Yes));
-    assert_eq!(fit(text.as_bytes(), 63, 62), Ok(Member(0)));
+    let told = |answer, passed| Ok(FitTold { answer, passed });
+    assert_eq!(fit(text.as_bytes(), 62, 63), told(Yes, 8));
+    assert_eq!(fit(text.as_bytes(), 63, 62), told(Member(0), 1));
 }

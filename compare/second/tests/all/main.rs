@@ -10,5 +10,6 @@ mod group;
 mod lack;
 mod machine;
 mod paper;
+mod passed;
 mod program;
 mod refusals;

@@ -28,12 +28,13 @@ fn program(words: &[&str], text: &[u8]) -> (String, i32) {
 
 #[test]
 fn questions_and_answers() {
-    let cases: [(&[&str], &str); 10] = [
+    let cases: [(&[&str], &str); 11] = [
         (&["verdict"], "verdict=0\nline=0\n"),
-        (&["fit", "0", "1"], "fit=0,3,1\n"),
-        (&["fit", "1", "2"], "fit=0,3,2\n"),
-        (&["fit", "1", "0"], "fit=0,2\n"),
-        (&["fit", "2", "2"], "fit=1\n"),
+        (&["fit", "0", "1"], "fit=0,3,1\npassed=0\n"),
+        (&["fit", "1", "2"], "fit=0,3,2\npassed=1\n"),
+        (&["fit", "2", "1"], "fit=0,3,1\npassed=0\n"),
+        (&["fit", "1", "0"], "fit=0,2\npassed=0\n"),
+        (&["fit", "2", "2"], "fit=1\npassed=1\n"),
         (&["fit", "3", "0"], "verdict=7\nline=0\n"),
         (&["run", "8"], "run=0,8,0,3\n"),
         (&["run", "7"], "run=1,7,65535,3\n"),
@@ -184,4 +185,5 @@ fn wrong_command_lines() {
     assert!(help.contains("second form F "));
     assert!(help.contains("bound=STEPS"));
     assert!(help.contains("fit=0,3,N") && help.contains("lack=3,N"));
+    assert!(help.contains("passed=P"));
 }

@@ -1,28 +1,7 @@
-use mathlib.Core.Path.{refl, sym, _∙_}
-use Rattle.fit_answer.proofs.WalkLaws.{by-kinds}
+use Rattle.fit_answer.proofs.SheetLaws.{walk-says}
 use borrow.Author.Needs.{needs}
 use Rattle.fit_answer.proofs.answer.Statement.{statement}
 use Rattle.fit_answer.proofs.answer.Tie as tie
 
-returns : tie.Need-returns
-returns c =
-    let k = c .before .before .before in let s = k .before .before in
-    c .walk .ensures ∙ by-kinds (s .args .work .now) (s .args .a) (s .args .b) (sym (c .before .enum-told .given .1) ∙ k .kind-at .ensures) refl
-
-returns-2 : tie.Need-returns-2
-returns-2 c =
-    let l = c .before .before in let k = l .before .before .before in let s = k .before .before in
-    by-kinds (s .args .work .now) (s .args .a) (s .args .b) (sym (l .before .enum-told2 .given .1) ∙ k .kind-at .ensures) (sym (c .enum-told3 .given .1) ∙ l .kind-at2 .ensures)
-
-returns-3 : tie.Need-returns-3
-returns-3 c =
-    let l = c .before .before .before in let k = l .before .before .before in let s = k .before .before in
-    c .walk2 .ensures
-    ∙ by-kinds (s .args .work .now) (s .args .a) (s .args .b) (sym (l .before .enum-told2 .given .1) ∙ k .kind-at .ensures) (sym (c .before .enum-told4 .given .1) ∙ l .kind-at2 .ensures)
-
 pub answer-spec : {M : Type 1} → statement M
-answer-spec =
-    tie.close
-    (tie.spec
-    (λ c κs. search needs) (λ c. search needs) (λ c κs. search needs) (λ c. search needs) (λ c κs. search needs) (λ c. search needs) (λ c. search needs)
-    (λ c κs. search needs) returns returns-2 returns-3)
+answer-spec = tie.close (tie.spec (λ c κs. search needs) (λ c. let s = c .before .before in walk-says (s .pre) (s .args .a) (s .args .b) (c .walk .ensures)))

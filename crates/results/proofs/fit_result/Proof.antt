@@ -1,5 +1,6 @@
 use mathlib.Core.Path.{ap}
-use Rattle.results.specs.Results.{fitResult}
+use Rattle.type_rules.specs.declared.FitReply.{FitReply}
+use Rattle.results.specs.Results.{fitReplyResult}
 use borrow.Author.Needs.{needs}
 use Rattle.results.proofs.fit_result.Statement.{statement}
 use Rattle.results.proofs.fit_result.Tie as tie
@@ -9,5 +10,5 @@ fit-result-spec =
     tie.close
     (tie.spec
     (λ c. search needs) (λ c κs. search needs) (λ c. search needs) (λ c κs. search needs) (λ c κs. search needs) (λ c κs. search needs)
-    (λ c. cc (ap fitResult (c .before .before .reply .given .1)))
-    (λ c. cc (ap fitResult (c .before .before .before .before .reply2 .given .1))))
+    (λ c. cc (ap (λ (r : FitReply). fitReplyResult r (c .before .before .before .before .args .told .passed)) (c .before .before .reply .given .1)))
+    (λ c. cc (ap (λ (r : FitReply). fitReplyResult r (c .before .before .before .before .before .before .args .told .passed)) (c .before .before .before .before .reply2 .given .1))))
