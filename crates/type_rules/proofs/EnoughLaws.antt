@@ -14,17 +14,18 @@ use borrow.Author.Tests.{lt-ltb, le-ltb, le-leb, lt-leb}
 use Rattle.sheet_rules.specs.declared.FitAnswer.{FitAnswer}
 use Rattle.sheet_rules.specs.declared.FitAnswer.the-variants.{Yes, WrongKind, Unmet}
 use Rattle.sheet_rules.specs.declared.Member.{Member}
+use Rattle.sheet_rules.specs.declared.Reason.{Reason}
 use Rattle.sheet_rules.specs.Sheet.{Row, Sheet, rowAt}
 use Rattle.sheet_rules.specs.RowLines.{nameOf}
-use Rattle.sheet_rules.specs.Reading.{Meaning, readable, meaning}
+use Rattle.sheet_rules.specs.Reading.{Meaning, readable, unreadable, meaning}
 use Rattle.sheet_rules.specs.WellFormed.{NamesAscend, end, above, WellFormed}
 use Rattle.sheet_rules.proofs.ReadingLaws.{readable-wellFormed}
 use Rattle.type_rules.specs.declared.FitReply.{FitReply}
-use Rattle.type_rules.specs.declared.FitReply.the-variants.{Answered}
+use Rattle.type_rules.specs.declared.FitReply.the-variants.{Answered, Refused}
 use Rattle.type_rules.specs.declared.FitTold.{FitTold}
 use Rattle.type_rules.specs.declared.Walk.{Walk}
 use Rattle.type_rules.specs.Fit.{kindFits, matches, hasMatch, membersAnswer, rowAnswer, fitAnswer, fits}
-use Rattle.type_rules.specs.FitQuestion.{fitReply, passedIn, passedOn, fitTold}
+use Rattle.type_rules.specs.FitQuestion.{fitReply, passedIn, passedOn, fitTold, toldRefused}
 use Rattle.type_rules.specs.Passed.{upTo, lastName, passed}
 use Rattle.type_rules.specs.Walk.{ends, walk, turnsOf, rowWalk}
 use Rattle.type_rules.proofs.FitLaws.{fit-rule}
@@ -34,6 +35,7 @@ use Rattle.type_rules.proofs.WalkLaws.{after, answer-skip, answer-lack,
 -- THE TURNS
 
 module _ (fit : ℕ → ℕ → Bool) (turns n : ℕ) (x y : Member) (xs ys : List Member) where
+  -- a turn, by the answers of its two tests: whether x has the lower name, and whether y has
   choice : Bool → Bool → Option Walk
   choice lower higher =
       cond lower (walk fit turns (suc n) xs (y ∷ ys))
@@ -61,6 +63,9 @@ module _ (fit : ℕ → ℕ → Bool) (turns n : ℕ) (x y : Member) (xs ys : Li
 
 -- THE COUNT
 
+-- of the members with names up to n: a member that is one adds one; there is none where all names are higher; they are no more than
+-- all members
+
 up-next : (n : ℕ) (x : Member) (xs : List Member) → nameOf x ≤ n → upTo n (x ∷ xs) ≡ suc (upTo n xs)
 unfolding upTo
 up-next n x xs h = ap (λ (b : Bool). cond b 1 0 + upTo n xs) (le-leb (nameOf x) n h) ∙ omega arith
@@ -80,13 +85,14 @@ up-most n (x ∷ xs) = go (leb (nameOf x) n) (up-most n xs)
     go true l = omega arith
     go false l = omega arith
 
--- no more than row a has
+-- no more are passed than row a has
 pub passed-most : (x : FitAnswer) (xs ys : List Member) → passed x xs ys ≤ length xs
 passed-most Yes xs [] = omega arith
 passed-most Yes xs (y ∷ ys) = up-most (lastName y ys) xs
 passed-most WrongKind xs ys = omega arith
 passed-most (Unmet n) xs ys = up-most n xs
 
+-- the last name is the highest
 last-above : (y : Member) (ys : List Member) {j : ℕ} → NamesAscend j (y ∷ ys) → nameOf y ≤ lastName y ys
 unfolding lastName
 last-above y [] q = omega arith
@@ -201,6 +207,18 @@ pub sheet-enough : (s : Sheet) → WellFormed s → (a b turns : ℕ) → turnsO
 sheet-enough s w a b turns h =
     row-enough (fits (s .rows)) turns (rowAt (s .rows) a) (rowAt (s .rows) b) (w .rows a .names) (w .rows b .names) h
     ∙ ap (λ (x : FitAnswer). ends x (passedIn s a b (Answered x))) (sym (fit-rule (s .rows) (λ i. w .rows i .lower) a b))
+
+-- where the question is refused, none is passed
+pub told-refused : (text : List ℕ) (a b : ℕ) {r : Reason} {n : ℕ} → (fitTold text a b ≡ toldRefused r n) ↔ (fitReply text a b ≡ Refused r n)
+unfolding fitTold
+told-refused text a b {r} {n} = (
+  λ e. ap (λ (t : FitTold). t .reply) e,
+  λ e. ap (λ (t : FitReply). record { reply = t; passed = passedOn (meaning text) a b t }) e ∙ ap (λ (k : ℕ). record { reply = Refused r n; passed = k }) (go (meaning text)),
+)
+  where
+    go : (m : Meaning) → passedOn m a b (Refused r n) ≡ 0
+    go (readable s) = refl
+    go (unreadable q l) = refl
 
 -- the question on a text tells where that walk ends, for rows that are there
 pub told-exactly : (text : List ℕ) (s : Sheet) → meaning text ≡ readable s → (a b : ℕ) → a < length (s .rows) → b < length (s .rows)

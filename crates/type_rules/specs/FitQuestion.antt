@@ -33,7 +33,8 @@ fitOn (unreadable r n) a b = Refused r n
 unfoldable pub fitReply : List ℕ → ℕ → ℕ → FitReply
 fitReply text a b = fitOn (meaning text) a b
 
--- how many members of row a the walk passed, where a sheet was read and a reply given; none if it is refused (document 02, order 5)
+-- how many members of row a the walk passed, beside a reply on a sheet, and on what a text means: none if it is refused (document 02,
+-- order 5)
 abbrev pub passedIn : Sheet → ℕ → ℕ → FitReply → ℕ
 passedIn s a b (Answered x) = passed x ((rowAt (s .rows) a) .members) ((rowAt (s .rows) b) .members)
 passedIn s a b (Refused r n) = 0
@@ -42,9 +43,10 @@ abbrev pub passedOn : Meaning → ℕ → ℕ → FitReply → ℕ
 passedOn (readable s) a b r = passedIn s a b r
 passedOn (unreadable e n) a b r = 0
 
--- what the fit question tells: its reply, and that number; when it refuses, none (document 02, order 5)
+-- what the fit question tells: its reply, and that number (document 02, order 5)
 unfoldable pub fitTold : List ℕ → ℕ → ℕ → FitTold
 fitTold text a b = record { reply = fitReply text a b; passed = passedOn (meaning text) a b (fitReply text a b) }
 
+-- what a refusal tells (EnoughLaws.told-refused: exactly where the reply is one) (document 02, order 5)
 abbrev pub toldRefused : Reason → ℕ → FitTold
 toldRefused r n = record { reply = Refused r n; passed = 0 }

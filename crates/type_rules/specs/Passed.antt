@@ -13,7 +13,7 @@ unfoldable pub upTo : ℕ → List Member → ℕ
 upTo n [] = 0
 upTo n (x ∷ xs) = cond (leb (nameOf x) n) 1 0 + upTo n xs
 
--- the last name of a list of members, the first of which is given beside the rest
+-- the last name of a row's members, of which there is one at least: the first, and the rest (document 02, order 5)
 unfoldable pub lastName : Member → List Member → ℕ
 lastName y [] = nameOf y
 lastName y (z ∷ ys) = lastName z ys

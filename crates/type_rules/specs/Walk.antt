@@ -14,7 +14,7 @@ use Rattle.sheet_rules.specs.RowLines.{nameOf}
 use Rattle.type_rules.specs.declared.Walk.{Walk}
 use Rattle.type_rules.specs.Fit.{kindFits, matches}
 
--- the walk ends, n members passed
+-- the walk ends with an answer, n members of row a passed (document 02, order 5)
 abbrev pub ends : FitAnswer → ℕ → Option Walk
 ends x n = some (record { answer = x; passed = n })
 
