@@ -30,20 +30,17 @@ fn walk_members(work: &[u16], a: usize, b: usize) -> Walk
             return Walk { answer, passed: i };
         }
         let given = table::rows::member_name(work, a, i);
-        if given < name {
-            i = i + 1;
-            continue;
-        }
         if name < given {
             return Walk { answer, passed: i };
         }
-        if fit::match_at(work, a, i, b, j) % 2 == 0 {
-            return Walk {
-                answer,
-                passed: i + 1,
-            };
-        }
+        let at = i;
         i = i + 1;
+        if given < name {
+            continue;
+        }
+        if fit::match_at(work, a, at, b, j) % 2 == 0 {
+            return Walk { answer, passed: i };
+        }
         j = j + 1;
     }
     Walk {

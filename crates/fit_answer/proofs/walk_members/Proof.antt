@@ -34,30 +34,30 @@ member-name-requires-2 c κs =
     let l = c .before .before .before .before in let n = l .before in let s = n .before .before .before in
     member-asks (s .pre) (s .args .a) (l .loop .i) (n .before .members-at .ensures .0) (c .if2 .left)
 
-loop-again : tie.Need-loop-again Inv-loop μ-loop
-loop-again c =
-    let g = c .before in let m = g .before .before in let u = m .before in let l = u .before .before in let n = l .before in
-    skipped (n .before .before .before .pre) (n .before .members-at .ensures .0) (n .members-at2 .ensures .0) (l .loop .inv) (u .before .loop-test .taken) (u .if1 .left) (m .member-name .ensures) (g .before .if2 .left) (g .member-name2 .ensures) (c .if3 .taken)
-
 returns-3 : tie.Need-returns-3 Inv-loop μ-loop
 returns-3 c =
+    let g = c .before in let m = g .before .before in let u = m .before in let l = u .before .before in let n = l .before in
+    lacking (n .before .before .before .pre) (n .before .members-at .ensures .0) (n .members-at2 .ensures .0) (l .loop .inv) (u .before .loop-test .taken) (u .if1 .left) (m .member-name .ensures) (g .before .if2 .left) (g .member-name2 .ensures) (c .if3 .taken)
+
+loop-again : tie.Need-loop-again Inv-loop μ-loop
+loop-again c =
     let g = c .before .before in let m = g .before .before in let u = m .before in let l = u .before .before in let n = l .before in
-    lacking (n .before .before .before .pre) (n .before .members-at .ensures .0) (n .members-at2 .ensures .0) (l .loop .inv) (u .before .loop-test .taken) (u .if1 .left) (m .member-name .ensures) (g .before .if2 .left) (g .member-name2 .ensures) (c .if4 .taken)
+    skipped (n .before .before .before .pre) (n .before .members-at .ensures .0) (n .members-at2 .ensures .0) (l .loop .inv) (u .before .loop-test .taken) (u .if1 .left) (m .member-name .ensures) (g .before .if2 .left) (g .member-name2 .ensures) (c .if4 .taken)
 
 match-at-requires : tie.Need-match-at-requires Inv-loop μ-loop
 match-at-requires c κs =
     let g = c .before .before in let m = g .before .before in let u = m .before in let l = u .before .before in let n = l .before in
-    match-asks (n .before .before .before .pre) (n .before .members-at .ensures .0) (n .members-at2 .ensures .0) (l .loop .inv) (u .before .loop-test .taken) (u .if1 .left) (m .member-name .ensures) (g .before .if2 .left) (g .member-name2 .ensures) (c .before .if3 .left) (c .if4 .left)
+    match-asks (n .before .before .before .pre) (n .before .members-at .ensures .0) (n .members-at2 .ensures .0) (l .loop .inv) (u .before .loop-test .taken) (u .if1 .left) (m .member-name .ensures) (g .before .if2 .left) (g .member-name2 .ensures) (c .if4 .left) (c .before .if3 .left)
 
 returns-4 : tie.Need-returns-4 Inv-loop μ-loop
 returns-4 c =
     let k = c .before .before in let g = k .before .before in let m = g .before .before in let u = m .before in let l = u .before .before in let n = l .before in
-    unmatched (n .before .before .before .pre) (n .before .members-at .ensures .0) (n .members-at2 .ensures .0) (l .loop .inv) (u .before .loop-test .taken) (u .if1 .left) (m .member-name .ensures) (g .before .if2 .left) (g .member-name2 .ensures) (k .before .if3 .left) (k .if4 .left) (c .before .match-at .ensures) (c .if5 .taken)
+    unmatched (n .before .before .before .pre) (n .before .members-at .ensures .0) (n .members-at2 .ensures .0) (l .loop .inv) (u .before .loop-test .taken) (u .if1 .left) (m .member-name .ensures) (g .before .if2 .left) (g .member-name2 .ensures) (k .if4 .left) (k .before .if3 .left) (c .before .match-at .ensures) (c .if5 .taken)
 
 loop-again-2 : tie.Need-loop-again-2 Inv-loop μ-loop
 loop-again-2 c =
     let k = c .before .before in let g = k .before .before in let m = g .before .before in let u = m .before in let l = u .before .before in let n = l .before in
-    matched (n .before .before .before .pre) (n .before .members-at .ensures .0) (n .members-at2 .ensures .0) (l .loop .inv) (u .before .loop-test .taken) (u .if1 .left) (m .member-name .ensures) (g .before .if2 .left) (g .member-name2 .ensures) (k .before .if3 .left) (k .if4 .left) (c .before .match-at .ensures) (c .if5 .left)
+    matched (n .before .before .before .pre) (n .before .members-at .ensures .0) (n .members-at2 .ensures .0) (l .loop .inv) (u .before .loop-test .taken) (u .if1 .left) (m .member-name .ensures) (g .before .if2 .left) (g .member-name2 .ensures) (k .if4 .left) (k .before .if3 .left) (c .before .match-at .ensures) (c .if5 .left)
 
 returns-5 : tie.Need-returns-5 Inv-loop μ-loop
 returns-5 c =
@@ -69,5 +69,5 @@ walk-members-spec =
     tie.close
     (tie.spec
     Inv-loop μ-loop (λ c κs. search needs) (λ c κs. search needs) (λ c. search needs) loop-holds returns member-name-requires returns-2 member-name-requires-2
-    (λ c. omega arith) (λ c. omega arith) (λ c. omega arith) loop-again returns-3 match-at-requires (λ c. omega arith) returns-4 (λ c. omega arith) (λ c. omega arith)
-    (λ c. omega arith) (λ c. omega arith) loop-again-2 returns-5)
+    returns-3 (λ c. omega arith) (λ c. omega arith) (λ c. omega arith) loop-again match-at-requires returns-4 (λ c. omega arith) (λ c. omega arith) (λ c. omega arith)
+    loop-again-2 returns-5)
