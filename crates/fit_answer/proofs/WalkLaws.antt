@@ -7,7 +7,7 @@ use native.Mathlib.Numerals.{add-one}
 use mathlib.Core.Path.{_≡_, sym, ap, ap₂, _∙_, subst}
 use mathlib.Core.Bool.{Bool, cond}
 use mathlib.Core.List.{List, [], _∷_}
-use mathlib.Core.Option.{some}
+use mathlib.Core.Option.{Option, some}
 use lib.Dec.{T}
 use lib.ListN.{length, getD, drop}
 use borrow.Author.Tests.{eq-eqb, ne-eqb}
@@ -18,6 +18,7 @@ use Rattle.sheet_rules.specs.declared.Member.{Member}
 use Rattle.sheet_rules.specs.declared.FitAnswer.the-variants.{Yes, WrongKind, Unmet}
 use Rattle.sheet_rules.specs.Sheet.{noMember}
 use Rattle.sheet_rules.specs.RowLines.{nameOf, mentionsBelow}
+use Rattle.type_rules.specs.declared.Walk.{Walk}
 use Rattle.type_rules.specs.Fit.{kindFits, membersAnswer}
 use Rattle.type_rules.specs.Passed.{passed}
 use Rattle.type_rules.specs.Walk.{ends, walk, turnsOf}
@@ -141,26 +142,22 @@ module _ {w : List ℕ} (h : Whole w) where
               }
 
           module _ {r : ℕ} (both : BothMatch w (memberIn w a i) (memberIn w b j) r) where
-            chosen : cond (firstBit r) (walk (tells w) left (suc i) xs ys) (ends (Unmet (nameOf y)) (suc i)) ≡ membersWalk w a b
-            chosen =
-                ap (λ (t : Bool). cond t (walk (tells w) left (suc i) xs ys) (ends (Unmet (nameOf y)) (suc i))) (both .first)
-                ∙ sym (turn-both (tells w) left i x y xs ys same-name)
-                ∙ both-taken
+            -- the turn, by whether they match
+            abbrev turned : Bool → Option Walk
+            turned t = cond t (walk (tells w) left (suc i) xs ys) (ends (Unmet (nameOf y)) (suc i))
+
+            chosen : turned (firstBit r) ≡ membersWalk w a b
+            chosen = ap turned (both .first) ∙ sym (turn-both (tells w) left i x y xs ys same-name) ∙ both-taken
 
             pub unmatched : r % 2 ≡ 0 → some (record { answer = Unmet name; passed = i + 1 }) ≡ membersWalk w a b
             unmatched z =
-                ap₂ (λ (n m : ℕ). ends (Unmet n) m) en (add-one i)
-                ∙ sym (ap (λ (t : Bool). cond t (walk (tells w) left (suc i) xs ys) (ends (Unmet (nameOf y)) (suc i))) (ne-eqb (r % 2) 1 (λ e. omega arith)))
-                ∙ chosen
+                ap₂ (λ (n m : ℕ). ends (Unmet n) m) en (add-one i) ∙ ap turned (sym (ne-eqb (r % 2) 1 (λ e. omega arith))) ∙ chosen
 
             pub matched : (r % 2 ≡ 0 → ⊥) → Going w a b (turn + 1) (i + 1) (j + 1)
             matched z =
                 let odd : r % 2 ≡ 1 = let m : r % 2 < 2 = mod-lt r (zero-lt-suc 1) in omega arith in
                 record {
-                  same =
-                      ap (λ (n : ℕ). walk (tells w) left n xs ys) (add-one i)
-                      ∙ sym (ap (λ (t : Bool). cond t (walk (tells w) left (suc i) xs ys) (ends (Unmet (nameOf y)) (suc i))) (eq-eqb (r % 2) 1 odd))
-                      ∙ chosen;
+                  same = ap (λ (n : ℕ). walk (tells w) left n xs ys) (add-one i) ∙ ap turned (sym (eq-eqb (r % 2) 1 odd)) ∙ chosen;
                 }
 
 -- the kinds of rows a and b, and then the members

@@ -63,8 +63,8 @@ module _ (fit : ℕ → ℕ → Bool) (turns n : ℕ) (x y : Member) (xs ys : Li
 
 -- THE COUNT
 
--- of the members with names up to n: a member that is one adds one; there is none where all names are higher; they are no more than
--- all members
+-- of the members with names up to n: a member that is one adds one; there is none where all names are higher, and one where only the
+-- first name is n; they are no more than all members
 
 up-next : (n : ℕ) (x : Member) (xs : List Member) → nameOf x ≤ n → upTo n (x ∷ xs) ≡ suc (upTo n xs)
 unfolding upTo
@@ -75,6 +75,9 @@ unfolding upTo
 up-none n end l = refl
 up-none n (above {x = x} {xs = xs} h r) l =
     ap₂ (λ (b : Bool) (k : ℕ). cond b 1 0 + k) (lt-leb (nameOf x) n (omega arith)) (up-none n r (omega arith))
+
+up-one : (n : ℕ) (x : Member) (xs : List Member) {i : ℕ} → NamesAscend i (x ∷ xs) → nameOf x ≡ n → upTo n (x ∷ xs) ≡ 1
+up-one n x xs p e = up-next n x xs (omega arith) ∙ ap suc (up-none n (after p) (omega arith))
 
 up-most : (n : ℕ) (xs : List Member) → upTo n xs ≤ length xs
 unfolding upTo
@@ -112,7 +115,7 @@ module _ (fit : ℕ → ℕ → Bool) (x y : Member) (xs ys : List Member) {j : 
 goes-on-both : (fit : ℕ → ℕ → Bool) (x y : Member) (xs ys : List Member) {i j : ℕ} → NamesAscend i (x ∷ xs) → NamesAscend j (y ∷ ys) → nameOf x ≡ nameOf y
     → passed (membersAnswer fit xs ys) (x ∷ xs) (y ∷ ys) ≡ suc (passed (membersAnswer fit xs ys) xs ys)
 unfolding membersAnswer lastName
-goes-on-both fit x y xs [] p q e = up-next (nameOf y) x xs (omega arith) ∙ ap suc (up-none (nameOf y) (after p) (omega arith))
+goes-on-both fit x y xs [] p q e = up-one (nameOf y) x xs p e
 goes-on-both fit x y xs (z ∷ ys) p (above h (above k r)) e = same a ∙ goes-on fit x z xs ys (above k r) (omega arith) a refl
   where
     a : FitAnswer
@@ -157,12 +160,9 @@ module _ (fit : ℕ → ℕ → Bool) (turns n : ℕ) (x y : Member) (xs ys : Li
       a : FitAnswer
       a = membersAnswer fit xs ys
 
-      mismatch : upTo (nameOf y) (x ∷ xs) ≡ 1
-      mismatch = up-next (nameOf y) x xs (omega arith) ∙ ap suc (up-none (nameOf y) (after p) (omega arith))
-
       go : (b : Bool) → cond b (walk fit turns (suc n) xs ys) (ends (Unmet (nameOf y)) (suc n)) ≡ ended (cond b a (Unmet (nameOf y)))
       go true = later ∙ ap (ends a) (omega (arith, goes-on-both fit x y xs ys p q e))
-      go false = ap (ends (Unmet (nameOf y))) (omega (arith, mismatch))
+      go false = ap (ends (Unmet (nameOf y))) (omega (arith, up-one (nameOf y) x xs p e))
 
   enough-turn : walk fit turns (suc n) xs (y ∷ ys) ≡ told fit (suc n) xs (y ∷ ys) → walk fit turns (suc n) xs ys ≡ told fit (suc n) xs ys
       → walk fit (suc turns) n (x ∷ xs) (y ∷ ys) ≡ told fit n (x ∷ xs) (y ∷ ys)

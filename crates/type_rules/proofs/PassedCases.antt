@@ -12,11 +12,11 @@ use Rattle.sheet_rules.specs.declared.Member.the-variants.{Method, Field}
 use Rattle.sheet_rules.specs.declared.Reason.the-variants.{Malformed, NotDefined}
 use Rattle.sheet_rules.specs.Sheet.{Row}
 use Rattle.sheet_rules.specs.Samples.{textOf}
-use Rattle.type_rules.specs.declared.FitReply.the-variants.{Answered, Refused}
+use Rattle.type_rules.specs.declared.FitReply.the-variants.{Answered}
 use Rattle.type_rules.specs.declared.FitTold.{FitTold}
 use Rattle.type_rules.specs.declared.Walk.{Walk}
 use Rattle.type_rules.specs.Fit.{fits}
-use Rattle.type_rules.specs.FitQuestion.{fitTold}
+use Rattle.type_rules.specs.FitQuestion.{fitTold, toldRefused}
 use Rattle.type_rules.specs.Walk.{ends, turnsOf, rowWalk}
 use Rattle.type_rules.proofs.Opened.{judging}
 
@@ -57,18 +57,11 @@ sheet =
     ∷ "new=0"
     ∷ []
 
-record Pair : Type 0 where
-  a : ℕ
-  b : ℕ
-  wanted : FitTold
+-- two rows, and what is told of them
+abbrev asked : (a b : ℕ) → FitAnswer → ℕ → ℕ × ℕ × FitTold
+asked a b x n = (a, b, record { reply = Answered x; passed = n })
 
-abbrev asked : (a b : ℕ) → FitAnswer → ℕ → Pair
-asked a b x n = record { a = a; b = b; wanted = record { reply = Answered x; passed = n } }
-
-abbrev refused : (a b : ℕ) → Pair
-refused a b = record { a = a; b = b; wanted = record { reply = Refused NotDefined 0; passed = 0 } }
-
-abbrev pairs : List Pair
+abbrev pairs : List (ℕ × ℕ × FitTold)
 pairs =
     -- kind
     asked 2 0 WrongKind 0
@@ -94,15 +87,15 @@ pairs =
     ∷ asked 2 3 Yes 2
     ∷ asked 4 3 Yes 2
     -- refused
-    ∷ refused 2 9
-    ∷ refused 9 2
+    ∷ (2, 9, toldRefused NotDefined 0)
+    ∷ (9, 2, toldRefused NotDefined 0)
     ∷ []
 
-pub pairs-hold : map (λ p. fitTold (textOf sheet) (p .a) (p .b)) pairs ≡ map (λ p. p .wanted) pairs
+pub pairs-hold : map (λ p. fitTold (textOf sheet) (p .0) (p .1)) pairs ≡ map (λ p. p .2) pairs
 unfolding judging
 pairs-hold = refl
 
-pub unread-none : fitTold [] 0 0 ≡ record { reply = Refused Malformed 1; passed = 0 }
+pub unread-none : fitTold [] 0 0 ≡ toldRefused Malformed 1
 unfolding judging
 unread-none = refl
 

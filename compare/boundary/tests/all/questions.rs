@@ -64,21 +64,21 @@ impl Case<'_> {
         is_left_clean(&work, &work_entry, &name);
     }
 
-    /// Two pairs of rows of a sheet that can be read; of eight sheets, one has
-    /// a number over its rows in its second pair.
+    /// Two pairs of rows of a sheet that can be read; of eight sheets, one is
+    /// asked for a third, with a row that it does not have.
     fn ask_fit(&self, seen: &mut Lengths) {
         let Ok(sheet) = second::read(self.text) else {
             return self.ask_pair(10, (0, 0), seen);
         };
         let rows = sheet.rows.len() as u16;
-        let [first, (a, b)] = generator::pairs(91, self.seed, rows);
-        self.ask_pair(10, (first.0.into(), first.1.into()), seen);
-        let second = match draw(self.seed ^ 101) % 16 {
-            0 => (a.into(), rows.into()),
-            1 => (u32::MAX, b.into()),
-            _ => (a.into(), b.into()),
-        };
-        self.ask_pair(12, second, seen);
+        for (place, (a, b)) in (0..).zip(generator::pairs(91, self.seed, rows)) {
+            self.ask_pair(10 + 2 * place, (a.into(), b.into()), seen);
+        }
+        match draw(self.seed ^ 101) % 16 {
+            0 => self.ask_pair(14, (0, rows.into()), seen),
+            1 => self.ask_pair(14, (u32::MAX, 0), seen),
+            _ => (),
+        }
     }
 
     fn ask_pair(&self, salt: u64, (a, b): (u32, u32), seen: &mut Lengths) {
