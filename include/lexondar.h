@@ -153,7 +153,11 @@ struct lexondar_run_result lexondar_run(const uint8_t *text, size_t text_len, ui
 /*
  * What a holder holds in the state that the run within the budget leaves:
  * count numbers of resource objects, ascending, at the start of result, which
- * has at least 256 places. Refusals 1 to 11.
+ * has at least 256 places. It holds what it can still use: itself, its fields,
+ * those of its kept values that some body of its form names, and, in its
+ * frames, the slots that an instruction not yet taken names and a body's last
+ * slot until it is returned. Main has only frames, and keeps its own last
+ * slot. Refusals 1 to 11.
  */
 struct lexondar_authority_result {
     uint32_t refusal;

@@ -7,9 +7,13 @@ use crate::table::Table;
 use boundary::{entries, REPORT, WORK};
 use second::machine::{Machine, STACK, STORE};
 
-/// Prints the table.
+/// Prints a table for each of two sheets.
 pub fn table() {
-    let sheet = sheets::holders();
+    table_of("256 objects, 64 frames", &sheets::holders());
+    table_of("the same, at work", &sheets::holders_at_work());
+}
+
+fn table_of(name: &str, sheet: &str) {
     let text = sheet.as_bytes();
     check(text);
     let questions = [
@@ -20,7 +24,7 @@ pub fn table() {
     ];
     let asked = questions.map(|question| Asked { question, text });
     let pairs = pairs::measure(&asked);
-    let mut table = Table::new(&[&["256 objects, 64 frames"], &pairs::HEADS[..]].concat());
+    let mut table = Table::new(&[&[name], &pairs::HEADS[..]].concat());
     for (name, pair) in [
         ("verdict, run and every holder", pairs[0]),
         ("verdict, run and a group of 16", pairs[1]),

@@ -158,3 +158,28 @@ pub fn holders() -> String {
     }
     text + "call=3,0,2\n"
 }
+
+/// The same store and stack, but each body has 27 instructions left, which
+/// name what its object keeps, and the form has seven more bodies of 32.
+pub fn holders_at_work() -> String {
+    let mut text = String::from("types=2\ntype=1,0\ntype=1,8\n");
+    for name in 0..8 {
+        let _ = writeln!(text, "def={name},0,0");
+    }
+    let keeps = "keep=0\n".repeat(8);
+    let _ = write!(text, "forms=2\nform=0,0\nform=1,8\n{keeps}body=32\n");
+    for made in 10..14 {
+        let _ = writeln!(text, "new=1,0,1,2,3,4,5,6,{}", made - 1);
+    }
+    text += "call=13,0,12\n";
+    let name_all = "new=1,2,3,4,5,6,7,8,9\n";
+    text += &name_all.repeat(27);
+    for _ in 1..8 {
+        let _ = write!(text, "body=32\n{}", name_all.repeat(32));
+    }
+    text += "main=5\nnew=0\n";
+    for made in 1..4 {
+        let _ = writeln!(text, "new=1,0,0,0,0,0,0,0,{}", made - 1);
+    }
+    text + "call=3,0,2\n"
+}

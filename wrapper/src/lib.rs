@@ -97,7 +97,11 @@ impl Default for Held {
 }
 
 /// The resource objects that a holder holds in the state that the run leaves,
-/// ascending. Main is holder 256.
+/// ascending. Main is holder 256. A holder holds what it can still use: itself,
+/// its fields, those of its kept values that some body of its form names, and,
+/// in its frames, the slots that an instruction not yet taken names and a
+/// body's last slot until it is returned. Main has only frames, and keeps its
+/// own last slot.
 pub fn authority<'a>(
     text: &[u8],
     budget: u32,

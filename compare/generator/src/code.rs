@@ -17,6 +17,8 @@ pub struct Writer<'a> {
     pub below: Option<u16>,
     /// The rows of the filled slots.
     pub slots: Vec<u16>,
+    /// The slots that no line names.
+    pub silent: Vec<usize>,
 }
 
 impl Writer<'_> {
@@ -29,10 +31,19 @@ impl Writer<'_> {
                 Some(asked) if place + 1 == count => self.fitting(asked, last.clone()),
                 _ => self.any(),
             };
-            self.slots.push(row);
+            self.fill(row);
             lines.push(line);
         }
         lines
+    }
+
+    /// Fills the next slot; in some styles it may be one that no line names.
+    pub fn fill(&mut self, row: u16) {
+        let share = self.plan.style.silent;
+        if share > 0 && self.rng.chance(share) {
+            self.silent.push(self.slots.len());
+        }
+        self.slots.push(row);
     }
 
     /// Main makes objects in the order of the forms, then does anything.
@@ -45,7 +56,7 @@ impl Writer<'_> {
             let wanted = form == 0 || self.rng.below(forms) < count;
             if lines.len() < most && wanted {
                 if let Some((line, row)) = self.create(form) {
-                    self.slots.push(row);
+                    self.fill(row);
                     lines.push(line);
                 }
             }
@@ -118,10 +129,17 @@ impl Writer<'_> {
         u32::from(self.own.is_some() && !self.plan.style.own_given)
     }
 
+    /// The slots from the first on that a line may name.
+    fn named_from(&self, first: u32) -> impl Iterator<Item = u32> + '_ {
+        let all = first..self.slots.len() as u32;
+        all.filter(|slot| !self.silent.contains(&(*slot as usize)))
+    }
+
     /// A slot whose row fits, by preference one with another row.
     fn slot_for(&mut self, asked: u16) -> Option<u32> {
         let fits = |row: u16| self.plan.fit.fits(row, asked);
-        let all: Vec<u32> = (self.first_given()..self.slots.len() as u32)
+        let given = self.named_from(self.first_given());
+        let all: Vec<u32> = given
             .filter(|slot| fits(self.slots[*slot as usize]))
             .collect();
         let other: Vec<u32> = all
@@ -147,7 +165,8 @@ impl Writer<'_> {
     /// A slot to call, in half of the cases one whose row has fields.
     fn receiver(&mut self) -> Option<usize> {
         let calm = self.own.is_some() && !self.plan.style.own_calls;
-        let all: Vec<usize> = (usize::from(calm)..self.slots.len()).collect();
+        let called = self.named_from(u32::from(calm));
+        let all: Vec<usize> = called.map(|slot| slot as usize).collect();
         let row = |slot: usize| &self.plan.rows[usize::from(self.slots[slot])];
         let fields: Vec<usize> = all
             .iter()
@@ -203,7 +222,7 @@ impl Writer<'_> {
     }
 
     fn copy(&mut self) -> Option<Filled> {
-        let slots: Vec<u32> = (self.first_given()..self.slots.len() as u32).collect();
+        let slots: Vec<u32> = self.named_from(self.first_given()).collect();
         let slot = self.rng.try_pick(&slots)?;
         Some((line("copy", &[slot]), self.slots[slot as usize]))
     }

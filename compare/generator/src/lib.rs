@@ -12,6 +12,7 @@ mod damage;
 mod draft;
 mod edges;
 mod group;
+mod idle;
 mod ladder;
 mod mill;
 mod misfit;
@@ -28,6 +29,7 @@ mod strict;
 mod style;
 mod summit;
 mod tower;
+pub mod usable;
 pub mod walk;
 mod wide;
 
@@ -71,6 +73,12 @@ pub fn sheet(seed: u64, index: u64) -> Vec<u8> {
 /// long and make much use of fields.
 pub fn mill(seed: u64, index: u64) -> Vec<u8> {
     render(&mill::mill(&mut Rng::new(seed, index)))
+}
+
+/// A well-typed sheet for the authority question, beside the rotation: many
+/// of its slots and kept values are named by nothing, or by nothing any more.
+pub fn idle(seed: u64, index: u64) -> Vec<u8> {
+    render(&idle::idle(&mut Rng::new(seed, index)))
 }
 
 /// A sheet that can be read, beside the rotation: it has any number of forms

@@ -96,6 +96,7 @@ fn make_form(rng: &mut Rng, rows: &[Row], row: u16, keeps: usize) -> FormPlan {
             .map(|_| rng.pick(&[ANY, CALLED, CALLED, CALLED]))
             .collect(),
         inits: Vec::new(),
+        silent: Vec::new(),
     };
     for member in &rows[usize::from(row)].members {
         let Kind::Field { row } = member.kind else {

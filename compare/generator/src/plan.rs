@@ -6,6 +6,7 @@ use crate::rng::Rng;
 use crate::rows::make_rows;
 use crate::style::Style;
 use second::fit::FitTable;
+use second::machine::FIRST_KEPT;
 use second::sheet::{Kind, Row, INSTRUCTION_LIMIT, KEEP_LIMIT};
 
 /// Rows and forms, settled before any body is written: a body may name any
@@ -22,6 +23,8 @@ pub struct FormPlan {
     pub keeps: Vec<u16>,
     /// The kept value that each field starts as, in the row's order.
     pub inits: Vec<usize>,
+    /// The kept values that no body names.
+    pub silent: Vec<usize>,
 }
 
 /// A well-typed sheet with sizes up to those of the style.
@@ -38,6 +41,7 @@ pub fn well_typed(rng: &mut Rng, style: &Style) -> Draft {
         row: 0,
         keeps: Vec::new(),
         inits: Vec::new(),
+        silent: Vec::new(),
     });
     for row in form_rows(rng, &plan) {
         let form = plan_form(rng, &plan, row);
@@ -73,6 +77,7 @@ fn plan_form(rng: &mut Rng, plan: &Plan, number: usize) -> Option<FormPlan> {
         row: number as u16,
         keeps: Vec::new(),
         inits: Vec::new(),
+        silent: Vec::new(),
     };
     for member in &row.members {
         if let Kind::Field { row } = member.kind {
@@ -141,6 +146,7 @@ pub fn write_sheet(rng: &mut Rng, plan: &Plan) -> Draft {
         own: None,
         below: None,
         slots: Vec::new(),
+        silent: Vec::new(),
     };
     let code = writer.write_main(main);
     draft.push(line("main", &[main as u32]));
@@ -203,15 +209,18 @@ fn write_body(
     (name, argument, result): (u16, u16, u16),
     count: usize,
 ) -> Vec<Line> {
-    let mut slots = vec![plan.forms[own].row, argument];
-    slots.extend(&plan.forms[own].keeps);
     let mut writer = Writer {
         plan,
         rng,
         own: Some(own),
         below: plan.style.strict.then_some(name),
-        slots,
+        slots: vec![plan.forms[own].row],
+        silent: Vec::new(),
     };
+    writer.fill(argument);
+    writer.slots.extend(&plan.forms[own].keeps);
+    let silent = plan.forms[own].silent.iter();
+    writer.silent.extend(silent.map(|kept| FIRST_KEPT + kept));
     // The body can always call itself with its own argument, or give it back
     // if it may not.
     let last = match plan.style.strict {

@@ -4,6 +4,7 @@ use crate::bounds::Bounds;
 use crate::cases::{causes, CASES, CAUSES};
 use crate::census::{census, Misfits, NAMES};
 use crate::rng::Rng;
+use crate::usable::Usable;
 use second::fit::FitTable;
 use second::{FitAnswer, Refusal};
 
@@ -12,6 +13,8 @@ const BUDGETS: [u32; 12] = [0, 1, 2, 7, 8, 20, 65, 66, 500, 10_000, 10_000, 100_
 
 /// There is a strict sheet for this many others.
 pub const STRICT_SHARE: u64 = 4;
+/// And an idle one for this many.
+pub const IDLE_SHARE: u64 = 8;
 
 /// How many sheets reached each answer.
 #[derive(Clone, Debug, Default, PartialEq, Eq)]
@@ -40,6 +43,10 @@ pub struct Report {
     pub bounds: Bounds,
     /// The same, asked of a strict sheet for every `STRICT_SHARE` sheets.
     pub strict: Bounds,
+    /// What the runs of accepted sheets have for the authority question.
+    pub usable: Usable,
+    /// The same, of an idle sheet for every `IDLE_SHARE` sheets.
+    pub idle: Usable,
 }
 
 /// Judges and runs `count` sheets of a seed.
@@ -65,6 +72,9 @@ impl Report {
         if index.is_multiple_of(STRICT_SHARE) {
             self.strict.add(&crate::strict(seed, index / STRICT_SHARE));
         }
+        if index.is_multiple_of(IDLE_SHARE) {
+            self.add_idle(&crate::idle(seed, index / IDLE_SHARE));
+        }
         let answer = match second::run(text, budget) {
             Ok(answer) => answer,
             Err(refusal) => return self.add_refusal(text, refusal),
@@ -83,6 +93,13 @@ impl Report {
             for (place, used) in census(&sheet).into_iter().enumerate() {
                 self.uses[place] += u64::from(used);
             }
+            self.usable.add(&sheet);
+        }
+    }
+
+    fn add_idle(&mut self, text: &[u8]) {
+        if let (Ok(()), Ok(sheet)) = (second::verdict(text), second::read(text)) {
+            self.idle.add(&sheet);
         }
     }
 
@@ -116,8 +133,9 @@ impl Report {
         }
     }
 
-    /// The refusals 2 to 10, outcomes, cases of misfit and answers to the
-    /// question for the most steps that no sheet reached.
+    /// The refusals 2 to 10, outcomes, cases of misfit, answers to the
+    /// question for the most steps and things for the authority question
+    /// that no sheet reached.
     pub fn missing(&self) -> Vec<String> {
         let refusals = (2..=10)
             .filter(|number| self.refusals[*number] == 0)
@@ -127,8 +145,10 @@ impl Report {
             .map(|number| format!("outcome {number}"));
         let misfits = self.misfits.missing();
         let bounds = self.strict.missing();
+        let usable = self.idle.missing();
         let counted = refusals.chain(outcomes);
-        counted.chain(misfits).chain(bounds).collect()
+        let asked = bounds.into_iter().chain(usable);
+        counted.chain(misfits).chain(asked).collect()
     }
 
     /// The tally, a line for each count.
@@ -157,6 +177,8 @@ impl Report {
             lines += &format!("lack {number}: {count}\n");
         }
         lines += &self.misfits.lines();
-        lines + &self.bounds.line("sheets") + &self.strict.line("strict sheets")
+        lines += &self.bounds.line("sheets");
+        lines += &self.strict.line("strict sheets");
+        lines + &self.usable.lines("accepted") + &self.idle.lines("idle")
     }
 }

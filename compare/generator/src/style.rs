@@ -24,6 +24,8 @@ pub struct Style {
     /// Whether bodies call names below their own only. The argument of every
     /// method then fits its result.
     pub strict: bool,
+    /// How many of a hundred arguments and filled slots no later line names.
+    pub silent: usize,
 }
 
 const SMALL: Style = Style {
@@ -39,6 +41,7 @@ const SMALL: Style = Style {
     own_calls: false,
     own_given: true,
     strict: false,
+    silent: 0,
 };
 
 pub const TINY: Style = Style {
@@ -128,6 +131,13 @@ pub const CROSSED: Style = Style {
 
 /// Mills; they make their rows and forms themselves.
 pub const MILL: Style = Style { main: 32, ..SMALL };
+
+/// Idle sheets; they make their rows and forms themselves.
+pub const IDLE: Style = Style {
+    main: 32,
+    silent: 35,
+    ..SMALL
+};
 
 /// Bodies that call lower names: of a few, of any, and with much making.
 pub const STRICT: [Style; 3] = [

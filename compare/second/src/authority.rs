@@ -1,6 +1,7 @@
 //! Who holds what in a state.
 
-use crate::machine::{Machine, STORE};
+use crate::machine::{Machine, FIRST_KEPT, STORE};
+use crate::sheet::{Part, Placed};
 
 /// Main's number as a holder.
 pub const MAIN: u16 = 256;
@@ -36,11 +37,34 @@ pub fn frame_holders(machine: &Machine) -> Vec<u16> {
     answer
 }
 
+/// Whether a filled slot of a frame counts: an instruction not yet taken
+/// names it, or it is the final slot. Main's final slot stays; a body's is
+/// gone with its frame when it returns.
+pub fn slot_counts(machine: &Machine, frame: usize, slot: usize) -> bool {
+    let frame = &machine.frames[frame];
+    slot == frame.final_slot() || names(frame.left(), slot)
+}
+
+/// Whether a kept value of an object counts: some body of its form names
+/// its slot.
+pub fn kept_counts(machine: &Machine, object: u16, place: usize) -> bool {
+    let form = machine.objects[usize::from(object)].form;
+    let parts = &machine.sheet.forms[usize::from(form)].parts;
+    parts.iter().any(|part| match part {
+        Part::Body(code) => names(code, FIRST_KEPT + place),
+        Part::Init { .. } => false,
+    })
+}
+
+/// Whether one of the instructions names the slot.
+fn names(code: &[Placed], slot: usize) -> bool {
+    code.iter()
+        .any(|placed| placed.instruction.names(slot as u16))
+}
+
 /// A holder's authority, ascending; none if the number is no holder.
 pub fn authority_of(machine: &Machine, holder: u32) -> Option<Vec<u16>> {
-    let mut held = [false; STORE];
-    join(machine, holder, &mut held)?;
-    Some(ascending(&held))
+    joined(machine, &[holder], Counted::Usable)
 }
 
 /// The joined authority of the listed holders, ascending; none if the list
@@ -49,36 +73,60 @@ pub fn group_of(machine: &Machine, holders: &[u32]) -> Option<Vec<u16>> {
     if holders.len() > GROUP_LIMIT {
         return None;
     }
+    joined(machine, holders, Counted::Usable)
+}
+
+/// What a holder's authority was when every filled slot and every kept value
+/// counted; none if the number is no holder.
+pub fn held_before(machine: &Machine, holder: u32) -> Option<Vec<u16>> {
+    joined(machine, &[holder], Counted::All)
+}
+
+/// Which filled slots and kept values count.
+#[derive(Clone, Copy, PartialEq, Eq)]
+enum Counted {
+    /// Those that code can still name, and final slots.
+    Usable,
+    All,
+}
+
+/// What the listed holders hold together, ascending; none if a number is no
+/// holder.
+fn joined(machine: &Machine, holders: &[u32], counted: Counted) -> Option<Vec<u16>> {
     let mut held = [false; STORE];
     for holder in holders {
-        join(machine, *holder, &mut held)?;
+        join(machine, *holder, counted, &mut held)?;
     }
     Some(ascending(&held))
 }
 
 /// Adds a holder's authority to the marked objects; none if the number is
 /// no holder.
-fn join(machine: &Machine, holder: u32, held: &mut [bool; STORE]) -> Option<()> {
+fn join(machine: &Machine, holder: u32, counted: Counted, held: &mut [bool; STORE]) -> Option<()> {
     let holder = u16::try_from(holder).ok()?;
-    let mut hold = |values: &[u16]| {
-        for value in values {
-            held[usize::from(*value)] |= is_resource(machine, *value);
-        }
-    };
+    let all = counted == Counted::All;
+    let mut hold = |value: u16| held[usize::from(value)] |= is_resource(machine, value);
     if holder != MAIN {
         let object = machine.objects.get(usize::from(holder))?;
         if !is_resource(machine, holder) {
             return None;
         }
-        hold(&[holder]);
-        hold(&object.kept);
+        hold(holder);
+        for (place, value) in object.kept.iter().enumerate() {
+            if all || kept_counts(machine, holder, place) {
+                hold(*value);
+            }
+        }
         for field in &object.fields {
-            hold(&[field.1]);
+            hold(field.1);
         }
     }
-    for (frame, owner) in frame_holders(machine).iter().enumerate() {
-        if *owner == holder {
-            hold(machine.frame_slots(frame));
+    let owners = frame_holders(machine).into_iter().enumerate();
+    for (frame, _) in owners.filter(|(_, owner)| *owner == holder) {
+        for (slot, value) in machine.frame_slots(frame).iter().enumerate() {
+            if all || slot_counts(machine, frame, slot) {
+                hold(*value);
+            }
         }
     }
     Some(())

@@ -6,6 +6,9 @@ use crate::sheet::{Instruction, Part, Placed, Sheet};
 pub const STORE: usize = 256;
 /// Frames on the stack, main's included.
 pub const STACK: usize = 64;
+/// The slot of a body's first kept value; the own object and the argument
+/// come before it.
+pub const FIRST_KEPT: usize = 2;
 /// The value of an unfinished run.
 pub const NO_VALUE: u16 = 65_535;
 
@@ -45,8 +48,28 @@ pub struct Frame<'a> {
     /// How many of its instructions have been taken.
     taken: usize,
     base: usize,
+    /// How many of its slots were filled at its start.
+    given: usize,
     /// The object that was called; main's frame has none.
     pub receiver: Option<u16>,
+}
+
+impl<'a> Frame<'a> {
+    /// The instructions that are taken. A call that waits for its return is
+    /// one of them.
+    pub fn done(&self) -> &'a [Placed] {
+        &self.code[..self.taken]
+    }
+
+    /// The instructions that are not yet taken.
+    pub fn left(&self) -> &'a [Placed] {
+        &self.code[self.taken..]
+    }
+
+    /// The slot that the last instruction fills.
+    pub fn final_slot(&self) -> usize {
+        self.given + self.code.len() - 1
+    }
 }
 
 /// A state of a sheet's run. Only sheets that typing accepts may run.
@@ -66,6 +89,7 @@ impl<'a> Machine<'a> {
             code: &sheet.main,
             taken: 0,
             base: 0,
+            given: 0,
             receiver: None,
         };
         Machine {
@@ -119,8 +143,7 @@ impl<'a> Machine<'a> {
 
     /// The top frame's next instruction, if it has one left.
     pub fn next(&self) -> Option<&'a Placed> {
-        let top = self.top();
-        top.code.get(top.taken)
+        self.top().left().first()
     }
 
     fn top(&self) -> &Frame<'a> {
@@ -222,6 +245,7 @@ impl<'a> Machine<'a> {
             code,
             taken: 0,
             base,
+            given: FIRST_KEPT + object.kept.len(),
             receiver: Some(receiver),
         });
     }

@@ -114,3 +114,21 @@ pub enum Instruction {
     Put { name: u16, slot: u16 },
     Copy { slot: u16 },
 }
+
+impl Instruction {
+    /// Whether it names this slot.
+    pub fn names(&self, slot: u16) -> bool {
+        match self {
+            Instruction::New { slots, .. } => slots.contains(&slot),
+            Instruction::Call {
+                slot: called,
+                argument,
+                ..
+            } => slot == *called || slot == *argument,
+            Instruction::Get { .. } => false,
+            Instruction::Put { slot: named, .. } | Instruction::Copy { slot: named } => {
+                slot == *named
+            }
+        }
+    }
+}

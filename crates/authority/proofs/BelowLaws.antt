@@ -7,32 +7,34 @@ use mathlib.Core.List.{List, _++_}
 use lib.Dec.{eqb}
 use lib.ListN.{length}
 use Rattle.sheet_rules.specs.Sheet.{Sheet}
-use Rattle.sheet_rules.specs.WellFormed.{WellFormed}
+use Rattle.authority_rules.specs.Counted.{waitingSlots}
 use Rattle.authority_rules.specs.Authority.{frameHolder, holderOf, slotsIf, slotsOf}
-use Rattle.table.specs.Layout.{objectAddress, slotAddress}
+use Rattle.table.specs.Layout.{objectAddress, slotAddress, stateEnd}
 use Rattle.table.specs.View.{sheetIn}
-use Rattle.table.proofs.ViewLaws.{SameTable, sheetIn-same}
+use Rattle.table.specs.Only.{Only}
+use Rattle.table.proofs.SheetLaws.{only-sheet, only-whole}
+use Rattle.table.proofs.ViewLaws.{SameTable}
 use Rattle.machine_state.specs.declared.Top.{Top}
-use Rattle.machine_state.specs.Held.{objectsIn, slotsIn, ownFrom, topIn, belowIn}
-use Rattle.machine_state.proofs.HeldLaws.{objects-same, slots-same, top-same}
-use Rattle.authority_marks.specs.Marked.{MarksOnly, Added}
+use Rattle.machine_state.specs.Held.{objectsIn, ownFrom, frameFrom, topIn, belowIn}
+use Rattle.machine_state.proofs.HeldLaws.{objects-same, frame-same, top-same}
+use Rattle.authority_marks.specs.Marked.{Added}
 use Rattle.authority_marks.proofs.MarkLaws.{added-none, added-before}
 use Rattle.authority.specs.Laid.{Stored, Slots, FrameMarked, Below, BelowMarked}
 
--- what marking leaves as it is
+-- what marking, as any change above the state, leaves as it is
 
-module _ (w w′ : List ℕ) (o : MarksOnly w w′) where
+module _ (w w′ : List ℕ) {hi : ℕ} (o : Only stateEnd hi w w′) where
   table : SameTable w w′
   table i h = o .below i (omega arith)
 
   pub marks-sheet : sheetIn w′ ≡ sheetIn w
-  marks-sheet = sheetIn-same w w′ table
+  marks-sheet = only-sheet o (omega arith)
 
   pub marks-objects : (n : ℕ) → objectsIn (sheetIn w′) w′ n ≡ objectsIn (sheetIn w) w n
   marks-objects n = ap (λ (s : Sheet). objectsIn s w′ n) marks-sheet ∙ objects-same (sheetIn w) w w′ n (λ i l u. o .below i (omega arith))
 
-  pub marks-slots-in : (f n : ℕ) → slotsIn w′ f n ≡ slotsIn w f n
-  marks-slots-in f n = slots-same w w′ table f n (λ i l u. o .below i (omega arith))
+  pub marks-frame : (f : ℕ) (t : Top) → frameFrom w′ f t ≡ frameFrom w f t
+  marks-frame f t = frame-same w w′ table f t (λ i l u. o .below i (omega arith))
 
   pub marks-top : (f : ℕ) → topIn w′ f ≡ topIn w f
   marks-top f = top-same w w′ table f (λ i l u. o .below i (omega arith))
@@ -40,7 +42,7 @@ module _ (w w′ : List ℕ) (o : MarksOnly w w′) where
   pub marks-stored : (n : ℕ) → Stored w n → Stored w′ n
   marks-stored n s =
       record {
-        whole = record { size = omega (arith, o .size, s .whole .size); sheet = subst WellFormed (sym marks-sheet) (s .whole .sheet) };
+        whole = only-whole o (omega arith) (s .whole);
         few = s .few;
         forms = λ i h. (let c = o .below (objectAddress i) (omega arith) in let l : length ((sheetIn w′) .forms) ≡ length ((sheetIn w) .forms) = ap (λ (x : Sheet). length (x .forms)) marks-sheet in omega (arith, s .forms i h, c, l));
       }
@@ -58,8 +60,8 @@ unfolding holderOf belowIn
 held-suc w n f = refl
 
 slots-suc : (w : List ℕ) (n h f : ℕ)
-    → slotsIf (eqb (holderOf (sheetIn w) (objectsIn (sheetIn w) w n) (belowIn w (suc f))) h) (slotsIn w f ((topIn w f) .filled)) ++ slotsOf (sheetIn w) (objectsIn (sheetIn w) w n) h (belowIn w f)
-    ≡ slotsOf (sheetIn w) (objectsIn (sheetIn w) w n) h (belowIn w (suc f))
+    → slotsIf (eqb (holderOf (sheetIn w) (objectsIn (sheetIn w) w n) (belowIn w (suc f))) h) (waitingSlots (frameFrom w f (topIn w f))) ++ slotsOf waitingSlots (sheetIn w) (objectsIn (sheetIn w) w n) h (belowIn w f)
+    ≡ slotsOf waitingSlots (sheetIn w) (objectsIn (sheetIn w) w n) h (belowIn w (suc f))
 unfolding slotsOf belowIn
 slots-suc w n h f = refl
 
@@ -83,7 +85,7 @@ module _ (w : List ℕ) (n h d : ℕ) (s : Stored w n) (small : d < 64) (slots :
     pub below-slots : Slots w₁ f (t .filled)
     below-slots = marks-slots w w₁ (b .marked .only) f (t .filled) (subst (λ (x : Top). Slots w f (x .filled)) (sym t-is) (slots f l))
 
-    pub below-next : (w₂ : List ℕ) (r₂ : ℕ) → FrameMarked w₁ n f (t .own) (t .filled) r h w₂ r₂ → BelowMarked w n h (f + 1) w₂ r₂
+    pub below-next : (w₂ : List ℕ) (r₂ : ℕ) → FrameMarked w₁ n f t r h w₂ r₂ → BelowMarked w n h (f + 1) w₂ r₂
     below-next w₂ r₂ m = subst (λ (x : ℕ). BelowMarked w n h x w₂ r₂) (sym (add-one f)) (record { holder = holder; marked = marked })
       where
         holder : r₂ ≡ holderOf (sheetIn w) (objectsIn (sheetIn w) w n) (belowIn w (suc f))
@@ -92,8 +94,8 @@ module _ (w : List ℕ) (n h d : ℕ) (s : Stored w n) (small : d < 64) (slots :
             ∙ (λ i. frameHolder (marks-sheet w w₁ (b .marked .only) i) (marks-objects w w₁ (b .marked .only) n i) (ownFrom (t-is i .own)) (b .holder i))
             ∙ held-suc w n f
 
-        marked : Added w (slotsOf (sheetIn w) (objectsIn (sheetIn w) w n) h (belowIn w (suc f))) w₂
+        marked : Added w (slotsOf waitingSlots (sheetIn w) (objectsIn (sheetIn w) w n) h (belowIn w (suc f))) w₂
         marked =
             subst (λ (xs : List ℕ). Added w xs w₂)
-            ((λ i. slotsIf (eqb (holder i) h) (marks-slots-in w w₁ (b .marked .only) f (t-is i .filled) i) ++ slotsOf (sheetIn w) (objectsIn (sheetIn w) w n) h (belowIn w f)) ∙ slots-suc w n h f)
-            (added-before w w₁ w₂ (slotsOf (sheetIn w) (objectsIn (sheetIn w) w n) h (belowIn w f)) (slotsIf (eqb r₂ h) (slotsIn w₁ f (t .filled))) (b .marked) (m .marked))
+            ((λ i. slotsIf (eqb (holder i) h) (waitingSlots (marks-frame w w₁ (b .marked .only) f (t-is i) i)) ++ slotsOf waitingSlots (sheetIn w) (objectsIn (sheetIn w) w n) h (belowIn w f)) ∙ slots-suc w n h f)
+            (added-before w w₁ w₂ (slotsOf waitingSlots (sheetIn w) (objectsIn (sheetIn w) w n) h (belowIn w f)) (slotsIf (eqb r₂ h) (waitingSlots (frameFrom w₁ f t))) (b .marked) (m .marked))

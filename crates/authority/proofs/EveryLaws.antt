@@ -27,10 +27,11 @@ use Rattle.machine_steps.specs.Running.{Running}
 use Rattle.machine_steps.proofs.FacingLaws.{objects-few}
 use Rattle.lists.specs.PutAt.{begun, putAt}
 use Rattle.lists.proofs.PutAtLaws.{put-put}
+use Rattle.authority.specs.Laid.{Prepared}
 use Rattle.authority.specs.Members.{heldState, GroupWritten}
 use Rattle.authority.specs.Every.{entryOf, entries, everySize, EntriesWritten, ifResource, EveryWritten}
 use Rattle.authority.proofs.BelowLaws.{marks-sheet}
-use Rattle.authority.proofs.MarkedRunLaws.{marks-state, marks-running}
+use Rattle.authority.proofs.MarkedRunLaws.{marks-state, marks-prepared}
 use Rattle.lists.proofs.PassingLaws.{passing-few, passing-snoc}
 use Rattle.authority.proofs.MemberLaws.{group-few}
 use Rattle.authority.proofs.PutLaws.{entry-put, entries-append, entries-one, entries-few}
@@ -51,14 +52,15 @@ module _ (w : List ℕ) (t : Top) (k : Tally) (r : Running w t k) where
   authority-few : (h : ℕ) → length (authority (sheetIn w) (heldState w t k) h) ≤ 256
   authority-few h = omega (arith, ap length (authority-one (sheetIn w) (heldState w t k) h), group-few w t k r (h ∷ []))
 
-  -- what writing one holder's authority asks for, by a list of that holder
+-- what writing one holder's authority asks for, by a list of that holder
+module _ (w : List ℕ) (t : Top) (k : Tally) (p : Prepared w t k) where
   pub entry-asks : {h h′ : ℕ} → h′ ≡ h → T (isHolder (sheetIn w) ((heldState w t k) .objects) h) → (at : ℕ) (result : List ℕ) → at + 258 ≤ length result
-      → Running w t k × T (all (isHolder (sheetIn w) ((heldState w t k) .objects)) (h′ ∷ [])) × (256 ≤ length (take (length result - (at + 2)) (drop (at + 2) result)))
+      → Prepared w t k × T (all (isHolder (sheetIn w) ((heldState w t k) .objects)) (h′ ∷ [])) × (256 ≤ length (take (length result - (at + 2)) (drop (at + 2) result)))
   unfolding all
   entry-asks {h} {h′} e u at result l = (
-    r,
+    p,
     and-intro (isHolder (sheetIn w) ((heldState w t k) .objects) h′) true (subst (λ (x : ℕ). T (isHolder (sheetIn w) ((heldState w t k) .objects) x)) (sym e) u) tt,
-    (let d = length-drop (at + 2) result in let p = length-take-le (length result - (at + 2)) (drop (at + 2) result) (omega arith) in omega arith),
+    (let d = length-drop (at + 2) result in let q = length-take-le (length result - (at + 2)) (drop (at + 2) result) (omega arith) in omega arith),
   )
 
 -- ENTRIES WRITTEN
@@ -156,50 +158,50 @@ unfolding passing
 first-written w t k at result = none-written w t k at result
 
 -- main's entry, and then one object after another
-module _ (w : List ℕ) (t : Top) (k : Tally) (r : Running w t k) (result : List ℕ) (size : everySize ≤ length result) (w₁ result₁ : List ℕ) (at₁ : ℕ) (m : EntriesWritten w t k (mainHolder ∷ []) w₁ 0 result result₁ at₁)
+module _ (w : List ℕ) (t : Top) (k : Tally) (p : Prepared w t k) (result : List ℕ) (size : everySize ≤ length result) (w₁ result₁ : List ℕ) (at₁ : ℕ) (m : EntriesWritten w t k (mainHolder ∷ []) w₁ 0 result result₁ at₁)
     (w₂ result₂ : List ℕ) (at₂ b : ℕ) (a : EntriesWritten w₁ t k (resources w₁ t k b) w₂ at₁ result₁ result₂ at₂) (l : b ≤ k .objects) where
-  r₁ : Running w₁ t k
-  r₁ = marks-running w w₁ (m .only) t k r
+  p₁ : Prepared w₁ t k
+  p₁ = marks-prepared w w₁ (m .only) t k p
 
   head : at₁ ≤ 258
-  head = written-few w t k r (mainHolder ∷ []) w₁ 0 result result₁ at₁ m
+  head = written-few w t k (p .running) (mainHolder ∷ []) w₁ 0 result result₁ at₁ m
 
   size₁ : length result₁ ≡ length result
-  size₁ = written-size w t k r (mainHolder ∷ []) w₁ 0 result result₁ at₁ m (omega arith)
+  size₁ = written-size w t k (p .running) (mainHolder ∷ []) w₁ 0 result result₁ at₁ m (omega arith)
 
   few : length (resources w₁ t k b) ≤ b
   few = passing-few (isResource (sheetIn w₁) ((heldState w₁ t k) .objects)) 0 b
 
   pub next-size : length result₂ ≡ length result
-  next-size = written-size w₁ t k r₁ (resources w₁ t k b) w₂ at₁ result₁ result₂ at₂ a (omega (arith, few, head, size₁, objects-few w t k r)) ∙ size₁
+  next-size = written-size w₁ t k (p₁ .running) (resources w₁ t k b) w₂ at₁ result₁ result₂ at₂ a (omega (arith, few, head, size₁, objects-few w t k (p .running))) ∙ size₁
 
-  pub next-asks : b < k .objects → Running w₂ t k × (at₂ + 258 ≤ everySize) × (everySize ≤ length result₂)
+  pub next-asks : b < k .objects → Prepared w₂ t k × (at₂ + 258 ≤ everySize) × (everySize ≤ length result₂)
   next-asks h = (
-    marks-running w₁ w₂ (a .only) t k r₁,
-    omega (arith, few, head, objects-few w t k r, written-few w₁ t k r₁ (resources w₁ t k b) w₂ at₁ result₁ result₂ at₂ a),
+    marks-prepared w₁ w₂ (a .only) t k p₁,
+    omega (arith, few, head, objects-few w t k (p .running), written-few w₁ t k (p₁ .running) (resources w₁ t k b) w₂ at₁ result₁ result₂ at₂ a),
     omega (arith, next-size),
   )
 
   pub next-written : (w₃ result₃ : List ℕ) (at₃ : ℕ) → EntriesWritten w₂ t k (ifResource w₂ t k b) w₃ at₂ result₂ result₃ at₃ → EntriesWritten w₁ t k (resources w₁ t k (b + 1)) w₃ at₁ result₁ result₃ at₃
   next-written w₃ result₃ at₃ c =
       subst (λ (hs : List ℕ). EntriesWritten w₁ t k hs w₃ at₁ result₁ result₃ at₃) (sym more)
-      (then-written w₁ t k r₁ (resources w₁ t k b) w₂ at₁ result₁ result₂ at₂ a (ifResource w₂ t k b) w₃ result₃ at₃ (omega (arith, head, size₁)) c)
+      (then-written w₁ t k (p₁ .running) (resources w₁ t k b) w₂ at₁ result₁ result₂ at₂ a (ifResource w₂ t k b) w₃ result₃ at₃ (omega (arith, head, size₁)) c)
     where
       more : resources w₁ t k (b + 1) ≡ resources w₁ t k b ++ ifResource w₂ t k b
       more =
           ap (resources w₁ t k) (add-one b)
           ∙ passing-snoc (isResource (sheetIn w₁) ((heldState w₁ t k) .objects)) 0 b
           ∙ (let z : 0 + b ≡ b = omega arith in ap (λ (x : ℕ). resources w₁ t k b ++ addIf (isResource (sheetIn w₁) ((heldState w₁ t k) .objects) x) x []) z)
-          ∙ sym (λ i. resources w₁ t k b ++ addIf (isResource (marks-sheet w₁ w₂ (a .only) i) ((marks-state w₁ w₂ (a .only) t k r₁ i) .objects) b) b [])
+          ∙ sym (λ i. resources w₁ t k b ++ addIf (isResource (marks-sheet w₁ w₂ (a .only) i) ((marks-state w₁ w₂ (a .only) t k (p₁ .running) i) .objects) b) b [])
 
   pub every-written : k .objects ≤ b → EveryWritten w t k w₂ result result₂ at₂
   every-written end =
       subst (λ (hs : List ℕ). EntriesWritten w t k (mainHolder ∷ hs) w₂ 0 result result₂ at₂) all
-      (then-written w t k r (mainHolder ∷ []) w₁ 0 result result₁ at₁ m (resources w₁ t k b) w₂ result₂ at₂ (omega arith) a)
+      (then-written w t k (p .running) (mainHolder ∷ []) w₁ 0 result result₁ at₁ m (resources w₁ t k b) w₂ result₂ at₂ (omega arith) a)
     where
       all : resources w₁ t k b ≡ passing (isResource (sheetIn w) ((heldState w t k) .objects)) 0 (length ((heldState w t k) .objects))
       all =
-          (λ i. passing (isResource (marks-sheet w w₁ (m .only) i) ((marks-state w w₁ (m .only) t k r i) .objects)) 0 b)
+          (λ i. passing (isResource (marks-sheet w w₁ (m .only) i) ((marks-state w w₁ (m .only) t k (p .running) i) .objects)) 0 b)
           ∙ (let n : b ≡ length ((heldState w t k) .objects) = omega (arith, objects-count (sheetIn w) w (k .objects)) in ap (passing (isResource (sheetIn w) ((heldState w t k) .objects)) 0) n)
 
 -- all entries fit

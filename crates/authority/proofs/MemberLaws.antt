@@ -20,7 +20,8 @@ use Rattle.lists.proofs.Tests.{T-ext}
 use Rattle.machine_rules.specs.declared.Tally.{Tally}
 use Rattle.machine_rules.specs.State.{Object}
 use Rattle.sheet_rules.specs.Sheet.{Sheet}
-use Rattle.authority_rules.specs.Authority.{isResource, isHolder, reached, holds}
+use Rattle.authority_rules.specs.Counted.{usable}
+use Rattle.authority_rules.specs.Authority.{isResource, isHolder, reachedBy, holdsBy}
 use Rattle.authority_rules.specs.Group.{groupHolds, groupAuthority, groupLimit, isGroup}
 use Rattle.table.specs.View.{sheetIn}
 use Rattle.table.proofs.ViewLaws.{only-refl, only-trans}
@@ -30,10 +31,10 @@ use Rattle.machine_state.proofs.HeldLaws.{objects-count}
 use Rattle.machine_steps.specs.Running.{Running}
 use Rattle.machine_steps.proofs.FacingLaws.{objects-few}
 use Rattle.authority_marks.specs.Marked.{MarksOnly, isMarked, MarksCleared, Added}
-use Rattle.authority.specs.Laid.{Stored, isReached, Written}
+use Rattle.authority.specs.Laid.{Prepared, Stored, isReached, Written}
 use Rattle.authority.specs.Members.{heldState, someReaches, MembersMarked, GroupWritten}
 use Rattle.authority.proofs.BelowLaws.{marks-sheet, marks-objects, marks-stored}
-use Rattle.authority.proofs.MarkedRunLaws.{marks-state, marks-running}
+use Rattle.authority.proofs.MarkedRunLaws.{marks-state, marks-prepared}
 use Rattle.authority.proofs.ReachLaws.{run-stored}
 
 -- WHETHER A LIST IS A GROUP
@@ -72,7 +73,7 @@ module _ (s : Sheet) (os : List Object) (hs : List ℕ) where
 
 -- MARKED ONE MEMBER AFTER ANOTHER
 
-module _ {w : List ℕ} {t : Top} {k : Tally} (r : Running w t k) (hs : List ℕ) where
+module _ {w : List ℕ} {t : Top} {k : Tally} (p : Prepared w t k) (hs : List ℕ) where
   pub members-start : MembersMarked w t k (take 0 hs) w
   unfolding any
   members-start = record { only = only-refl _ _ w; told = λ b l. sym (or-false (isMarked w b)) }
@@ -82,14 +83,14 @@ module _ {w : List ℕ} {t : Top} {k : Tally} (r : Running w t k) (hs : List ℕ
 
   module _ (i : ℕ) {w₁ : List ℕ} (m : MembersMarked w t k (take i hs) w₁) (l : i < length hs) {h : ℕ} (e : h ≡ getD hs i 0) where
     pub member-asks : T (all (isHolder (sheetIn w) (objectsIn (sheetIn w) w (k .objects))) hs)
-        → Running w₁ t k × T (isHolder (sheetIn w₁) (objectsIn (sheetIn w₁) w₁ (k .objects)) h)
+        → Prepared w₁ t k × T (isHolder (sheetIn w₁) (objectsIn (sheetIn w₁) w₁ (k .objects)) h)
     member-asks a = (
-      marks-running w w₁ (m .only) t k r,
+      marks-prepared w w₁ (m .only) t k p,
       subst T (sym (λ j. isHolder (marks-sheet w w₁ (m .only) j) (marks-objects w w₁ (m .only) (k .objects) j) (e j)))
           (all-in (isHolder (sheetIn w) (objectsIn (sheetIn w) w (k .objects))) hs a (in-getD hs i 0 l)),
     )
 
-    pub member-marked : {w₂ : List ℕ} → Added w₁ (reached (sheetIn w₁) (heldState w₁ t k) h) w₂ → MembersMarked w t k (take (i + 1) hs) w₂
+    pub member-marked : {w₂ : List ℕ} → Added w₁ (reachedBy usable (sheetIn w₁) (heldState w₁ t k) h) w₂ → MembersMarked w t k (take (i + 1) hs) w₂
     member-marked {w₂} a =
         subst (λ (x : ℕ). MembersMarked w t k (take x hs) w₂) (sym (add-one i))
         (record { only = only-trans (m .only) (a .only); told = told })
@@ -97,18 +98,18 @@ module _ {w : List ℕ} {t : Top} {k : Tally} (r : Running w t k) (hs : List ℕ
         told : (b : ℕ) → b < 256 → isMarked w₂ b ≡ (isMarked w b || someReaches w t k (take (suc i) hs) b)
         told b u =
             a .told b u
-            ∙ (λ j. m .told b u j || contains (reached (marks-sheet w w₁ (m .only) j) (marks-state w w₁ (m .only) t k r j) (e j)) b)
-            ∙ or-assoc (isMarked w b) (someReaches w t k (take i hs) b) (contains (reached (sheetIn w) (heldState w t k) (getD hs i 0)) b)
-            ∙ ap (λ (x : Bool). isMarked w b || x) (sym (any-take (λ x. contains (reached (sheetIn w) (heldState w t k) x) b) hs i 0 l))
+            ∙ (λ j. m .told b u j || contains (reachedBy usable (marks-sheet w w₁ (m .only) j) (marks-state w w₁ (m .only) t k (p .running) j) (e j)) b)
+            ∙ or-assoc (isMarked w b) (someReaches w t k (take i hs) b) (contains (reachedBy usable (sheetIn w) (heldState w t k) (getD hs i 0)) b)
+            ∙ ap (λ (x : Bool). isMarked w b || x) (sym (any-take (λ x. contains (reachedBy usable (sheetIn w) (heldState w t k) x) b) hs i 0 l))
 
 -- WRITTEN
 
-module _ {w : List ℕ} {t : Top} {k : Tally} (r : Running w t k) {w₁ : List ℕ} (c : MarksCleared w w₁) where
+module _ {w : List ℕ} {t : Top} {k : Tally} (p : Prepared w t k) {w₁ : List ℕ} (c : MarksCleared w w₁) where
   -- the members are asked for after the marks are cleared
   pub cleared-asks : (hs : List ℕ) → T (all (isHolder (sheetIn w) (objectsIn (sheetIn w) w (k .objects))) hs)
-      → Running w₁ t k × T (all (isHolder (sheetIn w₁) (objectsIn (sheetIn w₁) w₁ (k .objects))) hs)
+      → Prepared w₁ t k × T (all (isHolder (sheetIn w₁) (objectsIn (sheetIn w₁) w₁ (k .objects))) hs)
   cleared-asks hs a = (
-    marks-running w w₁ (c .only) t k r,
+    marks-prepared w w₁ (c .only) t k p,
     subst T (sym (λ j. all (isHolder (marks-sheet w w₁ (c .only) j) (marks-objects w w₁ (c .only) (k .objects) j)) hs)) a,
   )
 
@@ -117,22 +118,22 @@ module _ {w : List ℕ} {t : Top} {k : Tally} (r : Running w t k) {w₁ : List �
     only = only-trans (c .only) (m .only)
 
     pub written-stored : Stored w′ (k .objects)
-    written-stored = marks-stored w w′ only (k .objects) (run-stored w t k r)
+    written-stored = marks-stored w w′ only (k .objects) (run-stored w t k (p .running))
 
     same-test : (b : ℕ) → b < k .objects → isReached w′ (k .objects) b ≡ groupHolds (sheetIn w) (heldState w t k) hs b
-    unfolding groupHolds holds
+    unfolding groupHolds holdsBy
     same-test b l =
         (λ i. marked i && isResource (marks-sheet w w′ only i) (marks-objects w w′ only (k .objects) i) b)
         ∙ and-comm (someReaches w t k hs b) (isResource (sheetIn w) (objectsIn (sheetIn w) w (k .objects)) b)
-        ∙ sym (any-and (isResource (sheetIn w) (objectsIn (sheetIn w) w (k .objects)) b) (λ h. contains (reached (sheetIn w) (heldState w t k) h) b) hs)
+        ∙ sym (any-and (isResource (sheetIn w) (objectsIn (sheetIn w) w (k .objects)) b) (λ h. contains (reachedBy usable (sheetIn w) (heldState w t k) h) b) hs)
       where
         few : b < 256
-        few = omega (arith, objects-few w t k r)
+        few = omega (arith, objects-few w t k (p .running))
 
         marked : isMarked w′ b ≡ someReaches w t k hs b
         marked =
             m .told b few
-            ∙ (λ i. c .told b few i || any (λ h. contains (reached (marks-sheet w w₁ (c .only) i) (marks-state w w₁ (c .only) t k r i) h) b) hs)
+            ∙ (λ i. c .told b few i || any (λ h. contains (reachedBy usable (marks-sheet w w₁ (c .only) i) (marks-state w w₁ (c .only) t k (p .running) i) h) b) hs)
 
     same-list : passing (isReached w′ (k .objects)) 0 (k .objects) ≡ groupAuthority (sheetIn w) (heldState w t k) hs
     unfolding groupAuthority
@@ -155,5 +156,5 @@ module _ (w : List ℕ) (t : Top) (k : Tally) (r : Running w t k) where
   group-few hs = omega (arith, passing-few (groupHolds (sheetIn w) (heldState w t k) hs) 0 (length ((heldState w t k) .objects)), objects-count (sheetIn w) w (k .objects), objects-few w t k r)
 
 -- how many were written is a 16-bit number
-pub count-small : {w : List ℕ} {t : Top} {k : Tally} → Running w t k → {hs w′ result result′ : List ℕ} {c : ℕ} → GroupWritten w t k hs w′ result result′ c → c < 65536
-count-small {w} {t} {k} r {hs} a = omega (arith, a .counted, group-few w t k r hs)
+pub count-small : {w : List ℕ} {t : Top} {k : Tally} → Prepared w t k → {hs w′ result result′ : List ℕ} {c : ℕ} → GroupWritten w t k hs w′ result result′ c → c < 65536
+count-small {w} {t} {k} p {hs} a = omega (arith, a .counted, group-few w t k (p .running) hs)

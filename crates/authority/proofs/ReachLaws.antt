@@ -17,7 +17,8 @@ use Rattle.sheet_rules.specs.Sheet.{Sheet}
 use Rattle.machine_rules.specs.declared.Tally.{Tally}
 use Rattle.machine_rules.specs.State.{Object, State, objectAt}
 use Rattle.machine_rules.proofs.BoundsLaws.{BoundedObject, frame-bounded, object-bounded}
-use Rattle.authority_rules.specs.Authority.{isResource, isHolder, frameHolder, holderOf, slotsIf, slotsOf, ownValues, reached}
+use Rattle.authority_rules.specs.Counted.{topSlots, waitingSlots, usable}
+use Rattle.authority_rules.specs.Authority.{isResource, isHolder, frameHolder, holderOf, topHolder, slotsIf, slotsOf, heldSlots, ownValues, reachedBy}
 use Rattle.authority_rules.proofs.HoldingLaws.{resource-made}
 use Rattle.table.specs.Layout.{objectAddress, keptAddress, fieldAddress, slotAddress}
 use Rattle.table.specs.View.{cell, sheetIn}
@@ -28,10 +29,12 @@ use Rattle.machine_state.proofs.HeldLaws.{objects-count, slots-count}
 use Rattle.machine_steps.specs.Running.{Running}
 use Rattle.machine_steps.proofs.FacingLaws.{frames-few, objects-few, object-is}
 use Rattle.machine_steps.proofs.OwnLaws.{form-there}
+use Rattle.slot_notes.specs.Noted.{FormsNoted}
+use Rattle.slot_notes.proofs.FormNoteLaws.{forms-noted-kept}
 use Rattle.authority_marks.specs.Marked.{MarksOnly, Added}
 use Rattle.authority_marks.proofs.MarkLaws.{added-before}
-use Rattle.authority.specs.Laid.{Stored, Slots, FrameMarked, Below, BelowMarked, OwnSmall}
-use Rattle.authority.proofs.BelowLaws.{marks-sheet, marks-objects, marks-slots-in, marks-stored, marks-slots}
+use Rattle.authority.specs.Laid.{Prepared, Stored, Slots, TopMarked, Below, BelowMarked, OwnSmall}
+use Rattle.authority.proofs.BelowLaws.{marks-sheet, marks-objects, marks-frame, marks-stored, marks-slots}
 
 -- what a running state has in range
 
@@ -99,72 +102,58 @@ module _ (w : List ℕ) (t : Top) (k : Tally) (r : Running w t k) where
 
 -- WHAT IS REACHED
 
--- the frames' slots, the top frame's with those below
-frames-slots : (w : List ℕ) (t : Top) (k : Tally) (h r : ℕ) → r ≡ holderOf (sheetIn w) (objectsIn (sheetIn w) w (k .objects)) (frameFrom w (pred (k .frames)) t ∷ belowIn w (pred (k .frames)))
-    → slotsIf (eqb r h) (slotsIn w (pred (k .frames)) (t .filled)) ++ slotsOf (sheetIn w) (objectsIn (sheetIn w) w (k .objects)) h (belowIn w (pred (k .frames)))
-    ≡ slotsOf (sheetIn w) (objectsIn (sheetIn w) w (k .objects)) h (frameFrom w (pred (k .frames)) t ∷ belowIn w (pred (k .frames)))
-unfolding slotsOf
-frames-slots w t k h r e = ap (λ (x : ℕ). slotsIf (eqb x h) (slotsIn w (pred (k .frames)) (t .filled)) ++ slotsOf (sheetIn w) (objectsIn (sheetIn w) w (k .objects)) h (belowIn w (pred (k .frames)))) e
-
 top-holder : (w : List ℕ) (t : Top) (k : Tally)
     → frameHolder (sheetIn w) (objectsIn (sheetIn w) w (k .objects)) (ownFrom (t .own)) (holderOf (sheetIn w) (objectsIn (sheetIn w) w (k .objects)) (belowIn w (pred (k .frames))))
-    ≡ holderOf (sheetIn w) (objectsIn (sheetIn w) w (k .objects)) (frameFrom w (pred (k .frames)) t ∷ belowIn w (pred (k .frames)))
+    ≡ topHolder (sheetIn w) (stateIn (sheetIn w) w t k)
 unfolding holderOf
 top-holder w t k = refl
 
-reached-main : (s : Sheet) (σ : State) (h : ℕ) → h ≡ 256 → reached s σ h ≡ slotsOf s (σ .objects) h (σ .top ∷ σ .below)
-unfolding reached
+reached-main : (s : Sheet) (σ : State) (h : ℕ) → h ≡ 256 → reachedBy usable s σ h ≡ heldSlots usable s σ h
+unfolding reachedBy
 reached-main s σ h e =
-    ap (λ (b : Bool). cond b (slotsOf s (σ .objects) h (σ .top ∷ σ .below)) (cond (isResource s (σ .objects) h) (ownValues h (objectAt (σ .objects) h) ++ slotsOf s (σ .objects) h (σ .top ∷ σ .below)) [])) (eq-eqb h 256 e)
+    ap (λ (b : Bool). cond b (heldSlots usable s σ h) (cond (isResource s (σ .objects) h) (ownValues usable s h (objectAt (σ .objects) h) ++ heldSlots usable s σ h) [])) (eq-eqb h 256 e)
 
-reached-object : (s : Sheet) (σ : State) (h : ℕ) → (h ≡ 256 → ⊥) → isResource s (σ .objects) h ≡ true → reached s σ h ≡ ownValues h (objectAt (σ .objects) h) ++ slotsOf s (σ .objects) h (σ .top ∷ σ .below)
-unfolding reached
+reached-object : (s : Sheet) (σ : State) (h : ℕ) → (h ≡ 256 → ⊥) → isResource s (σ .objects) h ≡ true → reachedBy usable s σ h ≡ ownValues usable s h (objectAt (σ .objects) h) ++ heldSlots usable s σ h
+unfolding reachedBy
 reached-object s σ h d e =
-    (λ i. cond (ne-eqb h 256 d i) (slotsOf s (σ .objects) h (σ .top ∷ σ .below)) (cond (e i) (ownValues h (objectAt (σ .objects) h) ++ slotsOf s (σ .objects) h (σ .top ∷ σ .below)) []))
+    (λ i. cond (ne-eqb h 256 d i) (heldSlots usable s σ h) (cond (e i) (ownValues usable s h (objectAt (σ .objects) h) ++ heldSlots usable s σ h) []))
 
-module _ {w : List ℕ} {t : Top} {k : Tally} (r : Running w t k) (h : ℕ) {d : ℕ} (ed : d ≡ pred (k .frames)) where
-  -- the slots that count of all frames, the top one first
-  all-slots : List ℕ
-  all-slots = slotsOf (sheetIn w) (objectsIn (sheetIn w) w (k .objects)) h (frameFrom w (pred (k .frames)) t ∷ belowIn w (pred (k .frames)))
-
+module _ {w : List ℕ} {t : Top} {k : Tally} (p : Prepared w t k) (h : ℕ) {d : ℕ} (ed : d ≡ pred (k .frames)) where
   d-small : d < 64
-  d-small = omega (arith, frames-few w t k r, r .ending .frames)
+  d-small = omega (arith, frames-few w t k (p .running), p .running .ending .frames)
 
   pub reach-below : Stored w (k .objects) × (d < 64) × Below w d
-  reach-below = (run-stored w t k r, d-small, λ f l. run-below w t k r f (omega arith))
+  reach-below = (run-stored w t k (p .running), d-small, λ f l. run-below w t k (p .running) f (omega arith))
 
   module _ {w₂ : List ℕ} {b : ℕ} (m : BelowMarked w (k .objects) h d w₂ b) where
     only₂ : MarksOnly w w₂
     only₂ = m .marked .only
 
-    pub reach-frame : Stored w₂ (k .objects) × (d < 64) × Slots w₂ d (t .filled)
-    reach-frame = (
-      marks-stored w w₂ only₂ (k .objects) (run-stored w t k r),
+    pub reach-top : Stored w₂ (k .objects) × (d < 64) × Slots w₂ d (t .filled)
+    reach-top = (
+      marks-stored w w₂ only₂ (k .objects) (run-stored w t k (p .running)),
       d-small,
-      marks-slots w w₂ only₂ d (t .filled) (subst (λ (x : ℕ). Slots w x (t .filled)) (sym ed) (run-top w t k r)),
+      marks-slots w w₂ only₂ d (t .filled) (subst (λ (x : ℕ). Slots w x (t .filled)) (sym ed) (run-top w t k (p .running))),
     )
 
-    module _ {w₃ : List ℕ} {q : ℕ} (f : FrameMarked w₂ (k .objects) d (t .own) (t .filled) b h w₃ q) where
+    module _ {w₃ : List ℕ} (f : TopMarked w₂ (k .objects) d t b h w₃) where
       only₃ : MarksOnly w w₃
-      only₃ = only-trans only₂ (f .marked .only)
+      only₃ = only-trans only₂ (f .only)
 
-      q-is : q ≡ holderOf (sheetIn w) (objectsIn (sheetIn w) w (k .objects)) (frameFrom w (pred (k .frames)) t ∷ belowIn w (pred (k .frames)))
-      q-is =
-          f .holder
-          ∙ (λ i. frameHolder (marks-sheet w w₂ only₂ i) (marks-objects w w₂ only₂ (k .objects) i) (ownFrom (t .own))
+      holder-is : frameHolder (sheetIn w₂) (objectsIn (sheetIn w₂) w₂ (k .objects)) (ownFrom (t .own)) b ≡ topHolder (sheetIn w) (stateIn (sheetIn w) w t k)
+      holder-is =
+          (λ i. frameHolder (marks-sheet w w₂ only₂ i) (marks-objects w w₂ only₂ (k .objects) i) (ownFrom (t .own))
           ((m .holder ∙ ap (λ (x : ℕ). holderOf (sheetIn w) (objectsIn (sheetIn w) w (k .objects)) (belowIn w x)) ed) i))
           ∙ top-holder w t k
 
-      slots-added : Added w all-slots w₃
-      unfolding all-slots
+      slots-added : Added w (heldSlots usable (sheetIn w) (stateIn (sheetIn w) w t k) h) w₃
       slots-added =
           subst (λ (xs : List ℕ). Added w xs w₃)
-          ((λ i. slotsIf (eqb q h) ((marks-slots-in w w₂ only₂ d (t .filled) ∙ ap (λ (x : ℕ). slotsIn w x (t .filled)) ed) i) ++ slotsOf (sheetIn w) (objectsIn (sheetIn w) w (k .objects)) h (belowIn w (ed i)))
-          ∙ frames-slots w t k h q q-is)
-          (added-before w w₂ w₃ (slotsOf (sheetIn w) (objectsIn (sheetIn w) w (k .objects)) h (belowIn w d)) (slotsIf (eqb q h) (slotsIn w₂ d (t .filled))) (m .marked) (f .marked))
+          (λ i. slotsIf (eqb (holder-is i) h) (topSlots ((marks-frame w w₂ only₂ d t ∙ ap (λ (x : ℕ). frameFrom w x t) ed) i)) ++ slotsOf waitingSlots (sheetIn w) (objectsIn (sheetIn w) w (k .objects)) h (belowIn w (ed i)))
+          (added-before w w₂ w₃ (slotsOf waitingSlots (sheetIn w) (objectsIn (sheetIn w) w (k .objects)) h (belowIn w d))
+          (slotsIf (eqb (frameHolder (sheetIn w₂) (objectsIn (sheetIn w₂) w₂ (k .objects)) (ownFrom (t .own)) b) h) (topSlots (frameFrom w₂ d t))) (m .marked) f)
 
-      pub reach-main : h ≡ 256 → Added w (reached (sheetIn w) (stateIn (sheetIn w) w t k) h) w₃
-      unfolding all-slots
+      pub reach-main : h ≡ 256 → Added w (reachedBy usable (sheetIn w) (stateIn (sheetIn w) w t k) h) w₃
       reach-main e = subst (λ (xs : List ℕ). Added w xs w₃) (sym (reached-main (sheetIn w) (stateIn (sheetIn w) w t k) h e)) slots-added
 
       module _ (holder : T (isHolder (sheetIn w) (objectsIn (sheetIn w) w (k .objects)) h)) (other : h ≡ 256 → ⊥) where
@@ -174,22 +163,22 @@ module _ {w : List ℕ} {t : Top} {k : Tally} (r : Running w t k) (h : ℕ) {d :
         made : h < k .objects
         made = omega (arith, resource-made (sheetIn w) (objectsIn (sheetIn w) w (k .objects)) h resource, objects-count (sheetIn w) w (k .objects))
 
-        pub reach-own : Stored w₃ (k .objects) × (h < k .objects) × OwnSmall w₃ h
+        pub reach-own : Stored w₃ (k .objects) × (h < k .objects) × OwnSmall w₃ h × FormsNoted w₃
         reach-own = (
-          marks-stored w w₃ only₃ (k .objects) (run-stored w t k r),
+          marks-stored w w₃ only₃ (k .objects) (run-stored w t k (p .running)),
           made,
           record {
             kept = λ i l. subst (λ (x : ℕ). x < 256) (sym (only₃ .below (keptAddress h i) (omega arith)))
-                (run-own w t k r h made .kept i (subst (λ (x : ℕ). i < x) (λ j. keptCount (marks-sheet w w₃ only₃ j) (only₃ .below (objectAddress h) (omega arith) j)) l));
+                (run-own w t k (p .running) h made .kept i (subst (λ (x : ℕ). i < x) (λ j. keptCount (marks-sheet w w₃ only₃ j) (only₃ .below (objectAddress h) (omega arith) j)) l));
             fields = λ i l. subst (λ (x : ℕ). x < 256) (sym (only₃ .below (fieldAddress h i) (omega arith)))
-                (run-own w t k r h made .fields i (subst (λ (x : ℕ). i < x) (λ j. fieldCount (marks-sheet w w₃ only₃ j) (only₃ .below (objectAddress h) (omega arith) j)) l));
+                (run-own w t k (p .running) h made .fields i (subst (λ (x : ℕ). i < x) (λ j. fieldCount (marks-sheet w w₃ only₃ j) (only₃ .below (objectAddress h) (omega arith) j)) l));
           },
+          forms-noted-kept only₃ (omega arith) (omega arith) (p .noted),
         )
 
-        pub reach-object : {w₄ : List ℕ} → Added w₃ (ownValues h (objectAt (objectsIn (sheetIn w₃) w₃ (k .objects)) h)) w₄ → Added w (reached (sheetIn w) (stateIn (sheetIn w) w t k) h) w₄
-        unfolding all-slots
+        pub reach-object : {w₄ : List ℕ} → Added w₃ (ownValues usable (sheetIn w₃) h (objectAt (objectsIn (sheetIn w₃) w₃ (k .objects)) h)) w₄ → Added w (reachedBy usable (sheetIn w) (stateIn (sheetIn w) w t k) h) w₄
         reach-object {w₄} a =
             subst (λ (xs : List ℕ). Added w xs w₄)
-            (ap (λ (os : List Object). ownValues h (objectAt os h) ++ all-slots) (marks-objects w w₃ only₃ (k .objects))
+            ((λ i. ownValues usable (marks-sheet w w₃ only₃ i) h (objectAt (marks-objects w w₃ only₃ (k .objects) i) h) ++ heldSlots usable (sheetIn w) (stateIn (sheetIn w) w t k) h)
             ∙ sym (reached-object (sheetIn w) (stateIn (sheetIn w) w t k) h other (T→true (isResource (sheetIn w) (objectsIn (sheetIn w) w (k .objects)) h) resource)))
-            (added-before w w₃ w₄ all-slots (ownValues h (objectAt (objectsIn (sheetIn w₃) w₃ (k .objects)) h)) slots-added a)
+            (added-before w w₃ w₄ (heldSlots usable (sheetIn w) (stateIn (sheetIn w) w t k) h) (ownValues usable (sheetIn w₃) h (objectAt (objectsIn (sheetIn w₃) w₃ (k .objects)) h)) slots-added a)

@@ -8,7 +8,8 @@ use Rattle.machine_rules.specs.declared.Tally.{Tally}
 use Rattle.machine_rules.specs.State.{State}
 use Rattle.lists.specs.AnyAll.{any}
 use Rattle.lists.specs.Contains.{contains}
-use Rattle.authority_rules.specs.Authority.{reached}
+use Rattle.authority_rules.specs.Counted.{usable}
+use Rattle.authority_rules.specs.Authority.{reachedBy}
 use Rattle.authority_rules.specs.Group.{groupAuthority}
 use Rattle.table.specs.View.{sheetIn}
 use Rattle.machine_state.specs.declared.Top.{Top}
@@ -22,7 +23,7 @@ heldState w t k = stateIn (sheetIn w) w t k
 
 -- one of these holders can reach b
 abbrev pub someReaches : List ℕ → Top → Tally → List ℕ → ℕ → Bool
-someReaches w t k hs b = any (λ h. contains (reached (sheetIn w) (heldState w t k) h) b) hs
+someReaches w t k hs b = any (λ h. contains (reachedBy usable (sheetIn w) (heldState w t k) h) b) hs
 
 -- what these holders can reach is marked beside what was, and nothing else is changed
 pub record MembersMarked (w : List ℕ) (t : Top) (k : Tally) (hs : List ℕ) (w′ : List ℕ) : Type 0 where

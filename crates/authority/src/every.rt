@@ -6,7 +6,7 @@ ghost use lib.ListN.{length};
 ghost use Rattle.authority_rules.specs.Authority.{isHolder};
 ghost use Rattle.table.specs.View.{sheetIn};
 ghost use Rattle.machine_state.specs.Held.{objectsIn};
-ghost use Rattle.machine_steps.specs.Running.{Running};
+ghost use Rattle.authority.specs.Laid.{Prepared};
 ghost use Rattle.authority.specs.Every.{everySize, EntriesWritten, ifResource, EveryWritten};
 use crate::group::write_group;
 use crate::is_resource;
@@ -23,7 +23,7 @@ fn write_entry(
     result: &mut [u16],
     at: usize,
 ) -> usize
-    requires { ⌜ Running (now work) top tally × T (isHolder (sheetIn (now work)) (objectsIn (sheetIn (now work)) (now work) (tally .objects)) h) × (at + 258 ≤ everySize) × (everySize ≤ length (now result)) ⌝ }
+    requires { ⌜ Prepared (now work) top tally × T (isHolder (sheetIn (now work)) (objectsIn (sheetIn (now work)) (now work) (tally .objects)) h) × (at + 258 ≤ everySize) × (everySize ≤ length (now result)) ⌝ }
     ensures { λ r. ⌜ EntriesWritten (now (work .entry)) top tally (h ∷ []) (now (work .exit)) at (now (result .entry)) (now (result .exit)) r ⌝ }
 {
     let from = at + 2;
@@ -43,7 +43,7 @@ fn write_object(
     result: &mut [u16],
     at: usize,
 ) -> usize
-    requires { ⌜ Running (now work) top tally × (at + 258 ≤ everySize) × (everySize ≤ length (now result)) ⌝ }
+    requires { ⌜ Prepared (now work) top tally × (at + 258 ≤ everySize) × (everySize ≤ length (now result)) ⌝ }
     ensures { λ r. ⌜ EntriesWritten (now (work .entry)) top tally (ifResource (now (work .entry)) top tally b) (now (work .exit)) at (now (result .entry)) (now (result .exit)) r ⌝ }
 {
     if !is_resource(work, tally.objects, b) {
@@ -54,7 +54,7 @@ fn write_object(
 
 // Writes every holder's entry, main's first, then the resource objects' in ascending order; answers how many numbers they are.
 pub fn write_every(work: &mut [u16], top: Top, tally: Tally, result: &mut [u16]) -> usize
-    requires { ⌜ Running (now work) top tally × (everySize ≤ length (now result)) ⌝ }
+    requires { ⌜ Prepared (now work) top tally × (everySize ≤ length (now result)) ⌝ }
     ensures { λ r. ⌜ EveryWritten (now (work .entry)) top tally (now (work .exit)) (now (result .entry)) (now (result .exit)) r ⌝ }
 {
     let n = tally.objects;

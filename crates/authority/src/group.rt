@@ -8,8 +8,7 @@ ghost use Rattle.authority_rules.specs.Authority.{isHolder};
 ghost use Rattle.authority_rules.specs.Group.{isGroup};
 ghost use Rattle.table.specs.View.{sheetIn};
 ghost use Rattle.machine_state.specs.Held.{objectsIn};
-ghost use Rattle.machine_steps.specs.Running.{Running};
-ghost use Rattle.authority.specs.Laid.{Stored};
+ghost use Rattle.authority.specs.Laid.{Stored, Prepared};
 ghost use Rattle.authority.specs.Members.{MembersMarked, GroupWritten};
 use crate::collect::write_reached;
 use crate::reach::is_holder;
@@ -46,7 +45,7 @@ pub fn is_group(work: &[u16], n: usize, holders: &[u16]) -> bool
 
 // Marks what each of some holders can reach, beside what is marked.
 fn mark_members(work: &mut [u16], top: Top, tally: Tally, holders: &[u16])
-    requires { ⌜ Running (now work) top tally × T (all (isHolder (sheetIn (now work)) (objectsIn (sheetIn (now work)) (now work) (tally .objects))) (now holders)) ⌝ }
+    requires { ⌜ Prepared (now work) top tally × T (all (isHolder (sheetIn (now work)) (objectsIn (sheetIn (now work)) (now work) (tally .objects))) (now holders)) ⌝ }
     ensures { λ r. ⌜ MembersMarked (now (work .entry)) top tally (now (holders .entry)) (now (work .exit)) ⌝ }
 {
     let mut i: usize = 0;
@@ -64,7 +63,7 @@ pub fn write_group(
     holders: &[u16],
     result: &mut [u16],
 ) -> usize
-    requires { ⌜ Running (now work) top tally × T (all (isHolder (sheetIn (now work)) (objectsIn (sheetIn (now work)) (now work) (tally .objects))) (now holders)) × (256 ≤ length (now result)) ⌝ }
+    requires { ⌜ Prepared (now work) top tally × T (all (isHolder (sheetIn (now work)) (objectsIn (sheetIn (now work)) (now work) (tally .objects))) (now holders)) × (256 ≤ length (now result)) ⌝ }
     ensures { λ r. ⌜ GroupWritten (now (work .entry)) top tally (now (holders .entry)) (now (work .exit)) (now (result .entry)) (now (result .exit)) r ⌝ }
 {
     authority_marks::clear_marks(work);

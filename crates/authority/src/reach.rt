@@ -1,16 +1,16 @@
-// What a holder can reach in the state that a run left, marked.
+// What a holder can still use in the state that a run left, marked.
 ghost use mathlib.Core.Path.{_≡_};
 ghost use lib.Dec.{T};
-ghost use Rattle.authority_rules.specs.Authority.{isHolder, reached};
+ghost use Rattle.authority_rules.specs.Counted.{usable};
+ghost use Rattle.authority_rules.specs.Authority.{isHolder, reachedBy};
 ghost use Rattle.table.specs.View.{sheetIn};
 ghost use Rattle.machine_state.specs.Held.{objectsIn};
-ghost use Rattle.machine_steps.specs.Running.{Running};
 ghost use Rattle.authority_marks.specs.Marked.{Added};
-ghost use Rattle.authority.specs.Laid.{Stored};
+ghost use Rattle.authority.specs.Laid.{Stored, Prepared};
 ghost use Rattle.authority.specs.Members.{heldState};
 use crate::is_resource;
 use crate::mark_below;
-use crate::mark_frame;
+use crate::mark_top;
 use crate::own::mark_own;
 use machine_rules::Tally;
 use machine_state::Top;
@@ -26,15 +26,15 @@ pub fn is_holder(work: &[u16], n: usize, h: usize) -> bool
     is_resource(work, n, h)
 }
 
-// Marks what holder h can reach, beside what is marked: what is its own, and the filled slots of its frames.
+// Marks what holder h can reach, beside what is marked: what is its own, and the slots that count of its frames.
 pub fn mark_reached(work: &mut [u16], top: Top, tally: Tally, h: usize)
-    requires { ⌜ Running (now work) top tally × T (isHolder (sheetIn (now work)) (objectsIn (sheetIn (now work)) (now work) (tally .objects)) h) ⌝ }
-    ensures { λ r. ⌜ Added (now (work .entry)) (reached (sheetIn (now (work .entry))) (heldState (now (work .entry)) top tally) h) (now (work .exit)) ⌝ }
+    requires { ⌜ Prepared (now work) top tally × T (isHolder (sheetIn (now work)) (objectsIn (sheetIn (now work)) (now work) (tally .objects)) h) ⌝ }
+    ensures { λ r. ⌜ Added (now (work .entry)) (reachedBy usable (sheetIn (now (work .entry))) (heldState (now (work .entry)) top tally) h) (now (work .exit)) ⌝ }
 {
     let n = tally.objects;
     let d = tally.frames - 1;
     let beneath = mark_below(work, n, d, h);
-    mark_frame(work, n, d, top.own, top.filled, beneath, h);
+    mark_top(work, n, d, top, beneath, h);
     if h == 256 {
         return;
     }

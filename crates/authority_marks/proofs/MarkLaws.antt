@@ -11,12 +11,17 @@ use lib.ListN.{length, set}
 use lib.Seq.{getD-set-same, getD-set-other}
 use borrow.Author.Tests.{eq-eqb, ne-eqb}
 use Rattle.lists.specs.Tab.{tab}
-use Rattle.lists.proofs.TabLaws.{tab-suc}
+use Rattle.lists.specs.Passing.{addIf}
+use Rattle.lists.specs.AtPlaces.{atPlaces}
+use Rattle.lists.proofs.TabLaws.{tab-suc, length-tab}
+use Rattle.lists.proofs.AtPlacesLaws.{places-snoc, places-or}
 use Rattle.lists.specs.Contains.{contains}
-use Rattle.table.specs.Layout.{stateEnd, workSize, markAddress, marksEnd}
+use Rattle.table.specs.Layout.{stateEnd, workSize, markAddress, codeNotesAt, marksEnd}
 use Rattle.table.specs.View.{cell}
-use Rattle.table.proofs.ViewLaws.{only-refl, only-trans, only-set}
-use Rattle.authority_marks.specs.Marked.{MarksOnly, isMarked, MarksCleared, Added, numbersFrom}
+use Rattle.table.specs.Only.{Only}
+use Rattle.slot_notes.specs.Noted.{isNoted, NotesOnly}
+use Rattle.table.proofs.ViewLaws.{only-refl, only-trans, only-widen, only-set}
+use Rattle.authority_marks.specs.Marked.{MarksOnly, isMarked, MarksCleared, Added, MarkedIf, numbersFrom, notedFrom, Small}
 
 -- CLEARED
 
@@ -89,6 +94,23 @@ added-before w w₁ w₂ xs ys p q =
           (contains-append xs ys b ∙ or-comm (contains xs b) (contains ys b) ∙ sym (contains-append ys xs b));
     }
 
+-- the numbers at places that pass one test, and then those at places that pass another
+pub added-or : (p q : ℕ → Bool) (xs : List ℕ) {w w₁ w₂ : List ℕ} → Added w (atPlaces p xs) w₁ → Added w₁ (atPlaces q xs) w₂ → Added w (atPlaces (λ i. p i || q i) xs) w₂
+added-or p q xs {w} {w₁} {w₂} a b =
+    let r = added-after w w₁ w₂ (atPlaces p xs) (atPlaces q xs) a b in
+    record {
+      only = r .only;
+      told = λ x h. r .told x h ∙ ap (λ (t : Bool). isMarked w x || t) (contains-append (atPlaces p xs) (atPlaces q xs) x ∙ sym (places-or p q xs x));
+    }
+
+-- the notes of a code changed, and then some numbers
+pub added-noted : {w w₁ w₂ xs : List ℕ} → NotesOnly codeNotesAt w w₁ → Added w₁ xs w₂ → Added w xs w₂
+added-noted {xs = xs} o a =
+    record {
+      only = only-trans (only-widen (omega arith) (omega arith) o) (a .only);
+      told = λ b h. a .told b h ∙ ap (λ (x : ℕ). eqb x 1 || contains xs b) (o .below (markAddress b) (omega arith));
+    }
+
 -- one number
 pub added-one : (w : List ℕ) (v : ℕ) → v < 256 → workSize ≤ length w → Added w (v ∷ []) (set w (stateEnd + v) 1)
 unfolding contains
@@ -134,3 +156,55 @@ module _ (w : List ℕ) (at : ℕ) where
             ap (λ (x : ℕ). numbersFrom w at i ++ (x ∷ [])) v-is
             ∙ sym (tab-suc (λ j. cell w (at + j)) i)
             ∙ ap (numbersFrom w at) (sym (add-one i))
+
+-- ADDED BY NOTES
+
+-- a number whose note is set, or is not
+module _ (w : List ℕ) (v x : ℕ) where
+  pub marked-not : (x ≡ 1 → ⊥) → MarkedIf (eqb x 1) w v w
+  marked-not d = record { only = only-refl stateEnd codeNotesAt w; added = subst (λ (b : Bool). Added w (addIf b v []) w) (sym (ne-eqb x 1 d)) (added-none w) }
+
+  pub marked-one : x ≡ 1 → {u : ℕ} → u ≡ v → v < 256 → workSize ≤ length w → MarkedIf (eqb x 1) w v (set w (stateEnd + u) 1)
+  marked-one e {u} eu h s =
+      record {
+        only = only-set stateEnd codeNotesAt w (stateEnd + u) 1 (omega arith) (omega arith);
+        added =
+            subst (λ (b : Bool). Added w (addIf b v []) (set w (stateEnd + u) 1)) (sym (eq-eqb x 1 e))
+            (subst (λ (y : ℕ). Added w (y ∷ []) (set w (stateEnd + u) 1)) eu (added-one w u (omega arith) s));
+      }
+
+-- the loop over places
+pub record Noting (w : List ℕ) (at notes n : ℕ) (w′ : List ℕ) : Type 0 where
+  pub only : Only stateEnd codeNotesAt w w′
+  pub added : Added w (notedFrom w at notes n) w′
+
+pub noting-start : (w : List ℕ) (at notes : ℕ) → Noting w at notes 0 w
+unfolding tab atPlaces
+noting-start w at notes = record { only = only-refl stateEnd codeNotesAt w; added = added-none w }
+
+module _ {w : List ℕ} {at notes i : ℕ} {w₁ : List ℕ} (m : Noting w at notes i w₁) where
+  pub noting-asks : {count : ℕ} → (at + count ≤ stateEnd) × Small w at count × (codeNotesAt ≤ notes) × (notes + count ≤ workSize) × (workSize ≤ length w) → i < count
+      → (at + i < stateEnd) × (cell w₁ (at + i) < 256) × (notes + i < workSize) × (workSize ≤ length w₁)
+  noting-asks p l = (
+    omega (arith, p .0),
+    subst (λ (x : ℕ). x < 256) (sym (m .only .below (at + i) (omega (arith, p .0)))) (p .1 i l),
+    omega (arith, p .3),
+    omega (arith, p .4, m .only .size),
+  )
+
+  pub noting-next : at + i < stateEnd → codeNotesAt ≤ notes → {w₂ : List ℕ} → MarkedIf (eqb (cell w₁ (notes + i)) 1) w₁ (cell w₁ (at + i)) w₂ → Noting w at notes (i + 1) w₂
+  noting-next l above {w₂} k =
+      record {
+        only = only-trans (m .only) (k .only);
+        added = subst (λ (xs : List ℕ). Added w xs w₂) grown (added-after w w₁ w₂ (notedFrom w at notes i) (addIf (eqb (cell w₁ (notes + i)) 1) (cell w₁ (at + i)) []) (m .added) (k .added));
+      }
+    where
+      grown : notedFrom w at notes i ++ addIf (eqb (cell w₁ (notes + i)) 1) (cell w₁ (at + i)) [] ≡ notedFrom w at notes (i + 1)
+      grown =
+          (λ j. notedFrom w at notes i ++ addIf (eqb (m .only .above (notes + i) (omega arith) j) 1) (m .only .below (at + i) l j) [])
+          ∙ ap (λ (n : ℕ). notedFrom w at notes i ++ addIf (isNoted w notes n) (cell w (at + i)) []) (sym (length-tab (λ j. cell w (at + j)) i))
+          ∙ sym (places-snoc (isNoted w notes) (numbersFrom w at i) (cell w (at + i)))
+          ∙ ap (atPlaces (isNoted w notes)) (sym (tab-suc (λ j. cell w (at + j)) i) ∙ ap (numbersFrom w at) (sym (add-one i)))
+
+  pub noting-end : {count : ℕ} → i ≤ count → count ≤ i → Added w (notedFrom w at notes count) w₁
+  noting-end {count} l u = let e : i ≡ count = omega arith in subst (λ (n : ℕ). Added w (notedFrom w at notes n) w₁) e (m .added)

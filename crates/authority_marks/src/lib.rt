@@ -2,9 +2,11 @@
 ghost use mathlib.Core.Path.{_≡_};
 ghost use Prim.Native.Nat.{_<_, _+_, _≤_};
 ghost use mathlib.Core.List.{[], _∷_};
+ghost use lib.Dec.{eqb};
 ghost use lib.ListN.{length};
-ghost use Rattle.table.specs.Layout.{stateEnd, workSize};
-ghost use Rattle.authority_marks.specs.Marked.{isMarked, MarksCleared, Added, numbersFrom, Small};
+ghost use Rattle.table.specs.Layout.{stateEnd, codeNotesAt, workSize};
+ghost use Rattle.table.specs.View.{cell};
+ghost use Rattle.authority_marks.specs.Marked.{isMarked, MarksCleared, Added, MarkedIf, numbersFrom, notedFrom, Small};
 use table::rows::wide;
 
 // No number is marked.
@@ -28,6 +30,29 @@ pub fn mark_all(work: &mut [u16], at: usize, count: usize)
     while i < count {
         let v = wide(work[at + i]);
         work[27472 + v] = 1;
+        i = i + 1;
+    }
+}
+
+// Marks the number at a place, if its note, which stands at `note`, is set.
+fn mark_if_noted(work: &mut [u16], at: usize, note: usize)
+    requires { ⌜ (at < stateEnd) × (cell (now work) at < 256) × (note < workSize) × (workSize ≤ length (now work)) ⌝ }
+    ensures { λ r. ⌜ MarkedIf (eqb (cell (now (work .entry)) note) 1) (now (work .entry)) (cell (now (work .entry)) at) (now (work .exit)) ⌝ }
+{
+    if work[note] == 1 {
+        let v = wide(work[at]);
+        work[27472 + v] = 1;
+    }
+}
+
+// Marks those of the numbers in `count` places from `at` on whose notes are set; the first one's note stands at `notes`.
+pub fn mark_noted(work: &mut [u16], at: usize, count: usize, notes: usize)
+    requires { ⌜ (at + count ≤ stateEnd) × Small (now work) at count × (codeNotesAt ≤ notes) × (notes + count ≤ workSize) × (workSize ≤ length (now work)) ⌝ }
+    ensures { λ r. ⌜ Added (now (work .entry)) (notedFrom (now (work .entry)) at notes count) (now (work .exit)) ⌝ }
+{
+    let mut i: usize = 0;
+    while i < count {
+        mark_if_noted(work, at + i, notes + i);
         i = i + 1;
     }
 }

@@ -11,7 +11,7 @@ use Rattle.lists.proofs.Tests.{and-right, true→T}
 use Rattle.sheet_rules.specs.declared.Reason.{Reason}
 use Rattle.sheet_rules.specs.declared.Reason.the-variants.{NoHolder}
 use Rattle.sheet_rules.specs.declared.Verdict.{Verdict}
-use Rattle.machine_rules.specs.Steps.{Ran, run}
+use Rattle.machine_rules.specs.Steps.{Ran, ended, run}
 use Rattle.authority_rules.specs.declared.AuthorityReply.{AuthorityReply}
 use Rattle.authority_rules.specs.Authority.{isHolder}
 use Rattle.authority_rules.specs.AuthorityQuestion.{Held, held, notHeld}
@@ -24,10 +24,24 @@ use Rattle.verdict_question.proofs.OnLaws.{told-refused, told-accepted}
 use Rattle.machine.specs.declared.Halt.{Halt}
 use Rattle.machine.specs.Runs.{haltedState, SheetRun}
 use Rattle.lists.specs.PutAt.{begun}
+use Rattle.slot_notes.specs.Noted.{FormsNotedIn}
 use Rattle.authority.specs.Members.{GroupWritten}
+use Rattle.authority.proofs.MarkedRunLaws.{marks-state, above-state, run-prepared}
+use Rattle.authority_question.specs.Noted.{NotedRun}
 use Rattle.authority_question.specs.Asked.{heldReply, heldNumbers, HeldTold, HeldAsked, GroupAsked, AuthorityAsked}
 
-module _ {w : List ℕ} {budget : ℕ} {w₁ : List ℕ} {halt : Halt} (s : SheetRun w budget w₁ halt) where
+-- a run, and then its forms noted
+pub noted-run : {w : List ℕ} {budget : ℕ} {w₁ : List ℕ} {halt : Halt} → SheetRun w budget w₁ halt → {w₂ : List ℕ} → FormsNotedIn w₁ (length ((sheetIn w₁) .forms)) w₂
+    → NotedRun w budget w₂ halt
+noted-run {w₁ = w₁} {halt} s {w₂} m =
+    record {
+      only = only-trans (only-widen (omega arith) (omega arith) (s .only)) (only-widen (omega arith) (omega arith) (m .only));
+      ran = s .ran ∙ ap (ended (halt .outcome) (halt .tally .steps)) (sym (marks-state w₁ w₂ (above-state m) (halt .top) (halt .tally) (s .running)));
+      within = s .within;
+      prepared = run-prepared w₁ w₂ (halt .top) (halt .tally) (s .running) m;
+    }
+
+module _ {w : List ℕ} {budget : ℕ} {w₁ : List ℕ} {halt : Halt} (s : NotedRun w budget w₁ halt) where
   pub run-sheet-same : sheetIn w₁ ≡ sheetIn w
   run-sheet-same = sheetIn-same w w₁ (λ i h. s .only .below i h)
 

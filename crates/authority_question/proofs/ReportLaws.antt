@@ -15,17 +15,18 @@ use Rattle.table.proofs.ViewLaws.{only-trans, only-widen}
 use Rattle.verdict_question.specs.Asked.{TextJudged}
 use Rattle.verdict_question.proofs.OnLaws.{told-refused, told-accepted}
 use Rattle.machine.specs.declared.Halt.{Halt}
-use Rattle.machine.specs.Runs.{haltedState, SheetRun}
+use Rattle.machine.specs.Runs.{haltedState}
 use Rattle.lists.specs.PutAt.{begun}
 use Rattle.authority.specs.Every.{entries, EveryWritten}
 use Rattle.authority.proofs.EveryLaws.{every-few}
+use Rattle.authority_question.specs.Noted.{NotedRun}
 use Rattle.authority_question.specs.Asked.{reportReply, reportNumbers, ReportTold}
 use Rattle.authority_question.proofs.HeldLaws.{run-sheet-same}
 
-module _ (w : List ℕ) (budget : ℕ) (w₁ : List ℕ) (halt : Halt) (s : SheetRun w budget w₁ halt) (a : RunAnswer) (ea : a ≡ answerOf (ended (halt .outcome) (halt .tally .steps) (haltedState w₁ halt))) (result w′ result′ : List ℕ) (c : ℕ)
+module _ (w : List ℕ) (budget : ℕ) (w₁ : List ℕ) (halt : Halt) (s : NotedRun w budget w₁ halt) (a : RunAnswer) (ea : a ≡ answerOf (ended (halt .outcome) (halt .tally .steps) (haltedState w₁ halt))) (result w′ result′ : List ℕ) (c : ℕ)
     (x : EveryWritten w₁ (halt .top) (halt .tally) w′ result result′ c) where
   pub entries-fit : c < 4294967296
-  entries-fit = omega (arith, every-few w₁ (halt .top) (halt .tally) (s .running) w′ result result′ c x)
+  entries-fit = omega (arith, every-few w₁ (halt .top) (halt .tally) (s .prepared .running) w′ result result′ c x)
 
   report-is : reportOf (sheetIn w) (run (sheetIn w) budget) ≡ reported a (holdings (sheetIn w₁) (haltedState w₁ halt))
   report-is =

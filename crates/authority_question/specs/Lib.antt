@@ -1,1 +1,2 @@
+pub mod Noted
 pub mod Asked

@@ -8,22 +8,34 @@ ghost use Rattle.authority_rules.specs.Group.{groupIn, groupHeld};
 ghost use Rattle.table.specs.Layout.{workSize};
 ghost use Rattle.table.specs.View.{sheetIn};
 ghost use Rattle.accepted.specs.Accepted.{AcceptedIn};
+ghost use Rattle.authority_question.specs.Noted.{NotedRun};
 ghost use Rattle.authority_question.specs.Asked.{HeldTold, GroupAsked, AuthorityAsked};
 use authority::group::is_group;
 use authority::group::write_group;
 use authority_rules::AuthorityReply;
+use machine::Halt;
 use machine_state::narrow;
 use sheet_rules::Reason;
 use sheet_rules::Verdict;
 
 pub mod report;
 
+// The run of the sheet that the buffer holds; the slots that each form's bodies name are noted after it.
+fn run_noted(work: &mut [u16], budget: u32) -> Halt
+    requires { ⌜ AcceptedIn (now work) ⌝ }
+    ensures { λ r. ⌜ NotedRun (now (work .entry)) budget (now (work .exit)) r ⌝ }
+{
+    let halt = machine::run_sheet(work, budget);
+    slot_notes::note_forms(work);
+    halt
+}
+
 // The reply for the sheet that the buffer holds: holders are looked for after the run.
 fn held_in(work: &mut [u16], budget: u32, holders: &[u16], result: &mut [u16]) -> AuthorityReply
     requires { ⌜ AcceptedIn (now work) × (256 ≤ length (now result)) ⌝ }
     ensures { λ r. ⌜ HeldTold (groupIn (sheetIn (now (work .entry))) ((run (sheetIn (now (work .entry))) budget) .last) (now (holders .entry))) (now (work .entry)) (now (result .entry)) (now (work .exit)) (now (result .exit)) r ⌝ }
 {
-    let halt = machine::run_sheet(work, budget);
+    let halt = run_noted(work, budget);
     let top = halt.top;
     let tally = halt.tally;
     if !is_group(work, tally.objects, holders) {

@@ -8,6 +8,7 @@ ghost use Rattle.table.specs.View.{sheetIn};
 ghost use Rattle.accepted.specs.Accepted.{AcceptedIn};
 ghost use Rattle.authority.specs.Every.{everySize};
 ghost use Rattle.authority_question.specs.Asked.{ReportTold, ReportAsked};
+use crate::run_noted;
 use authority_rules::ReportReply;
 use sheet_rules::Reason;
 use sheet_rules::Verdict;
@@ -17,7 +18,7 @@ fn report_in(work: &mut [u16], budget: u32, result: &mut [u16]) -> ReportReply
     requires { ⌜ AcceptedIn (now work) × (everySize ≤ length (now result)) ⌝ }
     ensures { λ r. ⌜ ReportTold (reportOf (sheetIn (now (work .entry))) (run (sheetIn (now (work .entry))) budget)) (now (work .entry)) (now (result .entry)) (now (work .exit)) (now (result .exit)) r ⌝ }
 {
-    let halt = machine::run_sheet(work, budget);
+    let halt = run_noted(work, budget);
     let outcome = halt.outcome;
     let top = halt.top;
     let tally = halt.tally;

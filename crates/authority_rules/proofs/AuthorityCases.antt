@@ -1,65 +1,55 @@
--- Computed cases of authority: P's sets as the program prints them, a pure receiver's frame, fields and kept values, and the
--- traps. Assumes nothing.
-use Prim.Native.String.{String}
+-- Computed cases of authority: P's sets as the program prints them, what counts of a frame and of an object (document 02, order 6),
+-- a pure receiver's frame, fields, and the traps. Assumes nothing.
 use mathlib.Core.Path.{_≡_, refl}
 use mathlib.Core.List.{List, [], _∷_, map}
 use Rattle.sheet_rules.specs.Samples.{P}
 use Rattle.authority_rules.specs.Cases.{Case, heldBy, asked, answer}
 use Rattle.authority_rules.proofs.Opened.{holding}
-
--- a pure object's method makes a resource, hands it to a keeper that puts it in its field, and gives a pure value back.
--- Rows 0 pure empty, 1 resource empty, 2 resource `var=1,1`, `def=2,1,0`, 3 pure `def=1,2,0`.
--- Objects 0 pure, 1 resource, 2 keeper of 1, 3 pure maker, 4 the resource that 3 makes
-abbrev pantry : List String
-pantry =
-    "types=4"
-    ∷ "type=0,0"
-    ∷ "type=1,0"
-    ∷ "type=1,2"
-    ∷ "var=1,1"
-    ∷ "def=2,1,0"
-    ∷ "type=0,1"
-    ∷ "def=1,2,0"
-    ∷ "forms=4"
-    ∷ "form=0,0"
-    ∷ "form=1,0"
-    ∷ "form=2,2"
-    ∷ "keep=1"
-    ∷ "keep=0"
-    ∷ "init=0"
-    ∷ "body=2"
-    ∷ "put=1,1"
-    ∷ "copy=3"
-    ∷ "form=3,0"
-    ∷ "body=2"
-    ∷ "new=1"
-    ∷ "call=1,2,2"
-    ∷ "main=5"
-    ∷ "new=0"
-    ∷ "new=1"
-    ∷ "new=2,1,0"
-    ∷ "new=3"
-    ∷ "call=3,1,2"
-    ∷ []
+use Rattle.authority_rules.proofs.SmallSheets.{two, left, errand, farewell, idle, twice, gift, pantry}
 
 abbrev cases : List Case
 cases =
-    -- P: main 1 and 2, the scale itself, the clerk itself and the scale that it keeps
-    asked P (heldBy 8 256) (0 ∷ 0 ∷ 1 ∷ 2 ∷ [])
+    -- P done: main nothing, since its value is pure; the scale itself; the clerk itself and the scale that its body names
+    asked P (heldBy 8 256) (0 ∷ 0 ∷ [])
     ∷ asked P (heldBy 8 1) (0 ∷ 0 ∷ 1 ∷ [])
     ∷ asked P (heldBy 8 2) (0 ∷ 0 ∷ 1 ∷ 2 ∷ [])
+    -- before that main held the scale for the clerk's `new`, and then the clerk for its call
+    ∷ asked P (heldBy 2 256) (0 ∷ 0 ∷ 1 ∷ [])
+    ∷ asked P (heldBy 3 256) (0 ∷ 0 ∷ 2 ∷ [])
     -- no object yet, a pure one, a number over 256; main at the start holds nothing
     ∷ asked P (heldBy 2 2) (11 ∷ 0 ∷ [])
     ∷ asked P (heldBy 8 0) (11 ∷ 0 ∷ [])
     ∷ asked P (heldBy 8 257) (11 ∷ 0 ∷ [])
     ∷ asked P (heldBy 0 256) (0 ∷ 0 ∷ [])
+    -- main's last slot, once it is filled; the last one filled so far is not it
+    ∷ asked two (heldBy 1 256) (0 ∷ 0 ∷ [])
+    ∷ asked two (heldBy 2 256) (0 ∷ 0 ∷ 1 ∷ [])
+    -- a slot that an instruction names, and once that is taken no longer
+    ∷ asked left (heldBy 2 256) (0 ∷ 0 ∷ 0 ∷ [])
+    ∷ asked left (heldBy 3 256) (0 ∷ 0 ∷ [])
+    -- a frame that waits: what it names later counts, and the receiver of the waiting call does not
+    ∷ asked errand (heldBy 3 256) (0 ∷ 0 ∷ 1 ∷ 2 ∷ [])
+    ∷ asked errand (heldBy 4 256) (0 ∷ 0 ∷ 1 ∷ [])
+    -- nor does the last slot filled so far of one that has no instruction left
+    ∷ asked farewell (heldBy 3 256) (0 ∷ 0 ∷ 1 ∷ [])
+    ∷ asked farewell (heldBy 4 256) (0 ∷ 0 ∷ [])
+    -- a kept value that no body names, in the body and after it
+    ∷ asked idle (heldBy 4 2) (0 ∷ 0 ∷ 2 ∷ [])
+    ∷ asked idle (heldBy 100 2) (0 ∷ 0 ∷ 2 ∷ [])
+    -- a slot that is named and not filled gives nothing
+    ∷ asked twice (heldBy 4 2) (0 ∷ 0 ∷ 2 ∷ [])
+    -- a body's last slot, until it is returned; main leaves it, so that nobody but itself holds it
+    ∷ asked gift (heldBy 4 1) (0 ∷ 0 ∷ 1 ∷ 2 ∷ [])
+    ∷ asked gift (heldBy 5 1) (0 ∷ 0 ∷ 1 ∷ [])
+    ∷ asked gift (heldBy 5 256) (0 ∷ 0 ∷ [])
+    ∷ asked gift (heldBy 5 2) (0 ∷ 0 ∷ 2 ∷ [])
     -- in the pure maker's frame, which belongs to main, object 4 is main's
-    ∷ asked pantry (heldBy 6 256) (0 ∷ 0 ∷ 1 ∷ 2 ∷ 4 ∷ [])
-    -- the keeper, called with 4: it holds itself, its kept value 1 and its argument 4
+    ∷ asked pantry (heldBy 6 256) (0 ∷ 0 ∷ 2 ∷ 4 ∷ [])
+    -- the keeper, called with 4: it holds itself, 1 by its field and its argument 4
     ∷ asked pantry (heldBy 7 2) (0 ∷ 0 ∷ 1 ∷ 2 ∷ 4 ∷ [])
-    -- done: the keeper holds 4 by its field, and 1 by its kept value alone; main holds 4 no longer, though its keeper does
-    ∷ asked pantry (heldBy 100 2) (0 ∷ 0 ∷ 1 ∷ 2 ∷ 4 ∷ [])
-    ∷ asked pantry (heldBy 100 256) (0 ∷ 0 ∷ 1 ∷ 2 ∷ [])
+    -- done: it holds 4 by its field, and 1 no longer, a kept value that `init` alone names; main holds nothing, though its keeper does
+    ∷ asked pantry (heldBy 100 2) (0 ∷ 0 ∷ 2 ∷ 4 ∷ [])
+    ∷ asked pantry (heldBy 100 256) (0 ∷ 0 ∷ [])
     ∷ asked pantry (heldBy 100 4) (0 ∷ 0 ∷ 4 ∷ [])
     ∷ []
 

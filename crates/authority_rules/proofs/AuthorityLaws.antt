@@ -10,7 +10,8 @@ use Rattle.lists.proofs.PassingLaws.{Ascending, passing-ascending, passing-exac
 use Rattle.lists.proofs.Tests.{and-left}
 use Rattle.sheet_rules.specs.Sheet.{Sheet}
 use Rattle.machine_rules.specs.State.{Object, State}
-use Rattle.authority_rules.specs.Authority.{isResource, reached, holds, authority}
+use Rattle.authority_rules.specs.Counted.{usable}
+use Rattle.authority_rules.specs.Authority.{isResource, reachedBy, holdsBy, holds, authority}
 
 -- the numbers of an authority ascend, and none stands twice
 pub authority-ascending : (s : Sheet) (σ : State) (h : ℕ) → Ascending 0 (authority s σ h)
@@ -24,8 +25,8 @@ resource-below s os b t = ltb→lt b (length os) (and-left (ltb b (length os)) _
 
 -- what is held is an object
 pub held-below : (s : Sheet) (σ : State) (h b : ℕ) → T (holds s σ h b) → b < length (σ .objects)
-unfolding holds
-held-below s σ h b t = resource-below s (σ .objects) b (and-left (isResource s (σ .objects) b) (contains (reached s σ h) b) t)
+unfolding holdsBy
+held-below s σ h b t = resource-below s (σ .objects) b (and-left (isResource s (σ .objects) b) (contains (reachedBy usable s σ h) b) t)
 
 -- a number is in a holder's authority exactly when the holder holds it
 pub authority-holds : (s : Sheet) (σ : State) (h b : ℕ) → contains (authority s σ h) b ≡ holds s σ h b

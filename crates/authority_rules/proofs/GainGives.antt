@@ -1,5 +1,5 @@
--- The converse of GainLaws: what a way of Gain gives is held after the step, so that a resource is new in an authority exactly
--- when one of the three ways gives it. Assumes nothing.
+-- A converse of GainLaws, for the sets of before order 6: what a way of Gain gives was held after the step, when every filled slot and
+-- every kept value counted. For the sets of today it is false: a callee may never name its argument. Assumes nothing.
 use Prim.Native.Nat.{ℕ}
 use native.Mathlib.Omega.{arith}
 use mathlib.Core.Path.{_≡_, refl, sym, ap, _∙_, subst}
@@ -27,16 +27,17 @@ use Rattle.machine_rules.specs.Sound.{Sound}
 use Rattle.machine_rules.proofs.StoreLaws.{grows-append}
 use Rattle.machine_rules.proofs.NextLaws.{Comes, its-end, its-step, its-store, its-stack, its-lack, comes-step}
 use Rattle.machine_rules.proofs.SoundLaws.{step-sound, after-sound}
-use Rattle.authority_rules.specs.Authority.{isResource, frames, holderOf, topHolder, ownValues, holds}
+use Rattle.authority_rules.specs.Authority.{isResource, frames, holderOf, topHolder, ownValues}
+use Rattle.authority_rules.specs.Before.{everything, heldBefore}
 use Rattle.authority_rules.specs.Gain.{Gain, maker, itself, endowed, argument, result}
 use Rattle.lists.proofs.ContainsLaws.{contains-in}
-use Rattle.authority_rules.proofs.HoldingLaws.{this, Reaches, by-slot, by-own, is-holds}
+use Rattle.authority_rules.proofs.HoldingLaws.{Reaches, by-top, by-own, is-holds}
 use Rattle.authority_rules.proofs.StableLaws.{all-frames, holder-same}
 use Rattle.authority_rules.proofs.KindLaws.{pure-keeps}
 
 -- after a step to a sound state, each resource that a way of its action gives is reached
 abbrev Gives : Sheet → State → Action → State → Type 0
-Gives s σ a σ′ = Sound s σ′ → (h b : ℕ) → T (isResource s (σ′ .objects) b) → Gain s σ h b a → Reaches s (σ′ .objects) (frames σ′) h b
+Gives s σ a σ′ = Sound s σ′ → (h b : ℕ) → T (isResource s (σ′ .objects) b) → Gain s σ h b a → Reaches everything s σ′ h b
 
 abbrev GivesNext : Sheet → State → Next → Type 0
 GivesNext s σ = Comes (Gives s σ) (Unit {0}) (Unit {0}) (Unit {0})
@@ -62,10 +63,10 @@ module _ (s : Sheet) (w : WellFormed s) (t : Typed s) (σ : State) (c : Sound s 
       same = holder-same s (σ .objects) os (grows-append (σ .objects) x) (all-frames s σ c)
 
       -- what is the new object's own, it reaches
-      fresh : h ≡ number → T (isResource s os h) → In b (ownValues number x) → Reaches s os (frames (withNew s σ is f kept)) h b
+      fresh : h ≡ number → T (isResource s os h) → In b (ownValues everything s number x) → Reaches everything s (withNew s σ is f kept) h b
       fresh e q k =
-          by-own q (subst (λ (y : ℕ). In b (ownValues y (objectAt os y))) (sym e)
-          (subst (λ (y : Object). In b (ownValues number y)) (sym (getD-append-seam (σ .objects) x [] noObject)) k))
+          by-own q (subst (λ (y : ℕ). In b (ownValues everything s y (objectAt os y))) (sym e)
+          (subst (λ (y : Object). In b (ownValues everything s number y)) (sym (getD-append-seam (σ .objects) x [] noObject)) k))
 
       -- an object that keeps a resource is one: a pure one keeps pure objects alone
       keeper : In b kept → (y : Bool) → isResource s os number ≡ y → T (isResource s os number)
@@ -74,8 +75,8 @@ module _ (s : Sheet) (w : WellFormed s) (t : Typed s) (σ : State) (c : Sound s 
           absurd (pure-keeps s w t (withNew s σ is f kept) after number b (omega (arith, length-append (σ .objects) (x ∷ []))) e
           (subst (λ (y : Object). In b (y .kept)) (sym (getD-append-seam (σ .objects) x [] noObject)) i) r)
 
-      go : Gain s σ h b (creates number kept) → Reaches s os (frames (withNew s σ is f kept)) h b
-      go (maker e k) = by-slot (this (same ∙ sym e) (in-right (σ .top .slots) (number ∷ []) (here k)))
+      go : Gain s σ h b (creates number kept) → Reaches everything s (withNew s σ is f kept) h b
+      go (maker e k) = by-top (same ∙ sym e) (in-right (σ .top .slots) (number ∷ []) (here k))
       go (itself e k) = fresh e (subst (λ (y : ℕ). T (isResource s os y)) (k ∙ sym e) r) (here k)
       go (endowed e k q) =
           let i : In b kept = contains-in kept b k in
@@ -84,13 +85,13 @@ module _ (s : Sheet) (w : WellFormed s) (t : Typed s) (σ : State) (c : Sound s 
   call-gives : (is code : List Instr) (receiver value : ℕ) → Gives s σ (calls receiver value) (entered σ is receiver value code)
   unfolding holderOf
   call-gives is code receiver value after h b r (argument n e k q) =
-      by-slot (this (ap (λ (y : Bool). cond y receiver (topHolder s σ)) (T→true (isResource s (σ .objects) receiver) n) ∙ sym e) (there (here k)))
+      by-top (ap (λ (y : Bool). cond y receiver (topHolder s σ)) (T→true (isResource s (σ .objects) receiver) n) ∙ sym e) (there (here k))
 
   return-gives : (f : Frame) (fs : List Frame) → σ .below ≡ f ∷ fs
       → Gives s σ (returns (lastOf (σ .top .slots))) (record { objects = σ .objects; top = filled f (lastOf (σ .top .slots)); below = fs })
   unfolding holderOf
   return-gives f fs d after h b r (result m n k q e) =
-      by-slot (this (ap (holderOf s (σ .objects)) (sym d) ∙ sym e) (in-right (f .slots) (lastOf (σ .top .slots) ∷ []) (here k)))
+      by-top (ap (holderOf s (σ .objects)) (sym d) ∙ sym e) (in-right (f .slots) (lastOf (σ .top .slots) ∷ []) (here k))
 
   new-gives-next : (is : List Instr) (f : ℕ) (kept : List ℕ) → GivesNext s σ (newStep s σ is f kept)
   new-gives-next is f kept = go (ltb (length (σ .objects)) storeLimit)
@@ -142,14 +143,14 @@ module _ (s : Sheet) (w : WellFormed s) (t : Typed s) (σ : State) (c : Sound s 
   next-gives = code-gives (σ .top .code)
 
   -- what a step gives, said by the tests of the authority rules
-  pub step-gives : (a : Action) (σ′ : State) → nextStep s σ ≡ step a σ′ → (h b : ℕ) → T (isResource s (σ′ .objects) b) → Gain s σ h b a → T (holds s σ′ h b)
+  pub step-gives : (a : Action) (σ′ : State) → nextStep s σ ≡ step a σ′ → (h b : ℕ) → T (isResource s (σ′ .objects) b) → Gain s σ h b a → T (heldBefore s σ′ h b)
   step-gives a σ′ e h b r g =
       let after : Sound s σ′ = step-sound s w t σ σ′ a c e in
-      is-holds s σ′ h b (after .places) (record { resource = r; reaches = comes-step next-gives e after h b r g })
+      is-holds everything s σ′ h b (after .places) (record { resource = r; reaches = comes-step next-gives e after h b r g })
 
--- of every accepted text, after every n steps: a gain of what is a resource after the step is held after it
+-- of every accepted text, after every n steps: a gain of what is a resource after the step was held after it
 pub gain-gives : (text : List ℕ) (s : Sheet) → meaning text ≡ readable s → verdict text ≡ Accepted → (n : ℕ) (σ : State) → after s n ≡ some σ
-    → (a : Action) (σ′ : State) → nextStep s σ ≡ step a σ′ → (h b : ℕ) → T (isResource s (σ′ .objects) b) → Gain s σ h b a → T (holds s σ′ h b)
+    → (a : Action) (σ′ : State) → nextStep s σ ≡ step a σ′ → (h b : ℕ) → T (isResource s (σ′ .objects) b) → Gain s σ h b a → T (heldBefore s σ′ h b)
 gain-gives text s read accepted n σ reached =
     let p = accepted-sheet text s read accepted in
     step-gives s (p .0) (p .1) σ (after-sound s (p .0) (p .1) n σ reached)

@@ -1,5 +1,5 @@
 -- What follows from the gain rule for a group, by every word of it: some member gained, who called or returned is outside, what is
--- given is held, a group of one has the single holder's rule, and a group at work gains only what it makes. And what is false: that
+-- given was held when every slot counted, a group of one has the single holder's rule, and a group at work gains only what it makes. And what is false: that
 -- a creation, too, comes from outside. Assumes nothing.
 use Prim.Native.Nat.{ℕ}
 use mathlib.Core.Path.{_≡_, refl, sym, subst}
@@ -7,21 +7,25 @@ use mathlib.Core.List.{List, [], _∷_}
 use mathlib.Core.Option.{some}
 use lib.Dec.{T}
 use Rattle.lists.specs.In.{In, here}
+use Rattle.lists.specs.AnyAll.{any}
 use Rattle.lists.proofs.InLaws.{in-one}
+use Rattle.lists.proofs.AnyAllLaws.{in-any}
 use Rattle.sheet_rules.specs.declared.Verdict.the-variants.{Accepted}
 use Rattle.sheet_rules.specs.Samples.{textOf, P}
 use Rattle.sheet_rules.specs.Sheet.{Sheet}
-use Rattle.sheet_rules.specs.Reading.{Meaning, readable, unreadable, meaning}
+use Rattle.sheet_rules.specs.Reading.{readable, meaning}
 use Rattle.type_rules.specs.Typing.{verdict}
 use Rattle.machine_rules.specs.State.{State}
 use Rattle.machine_rules.specs.Step.{Action, creates, calls, returns, step, nextStep}
 use Rattle.machine_rules.specs.Steps.{after, run}
 use Rattle.authority_rules.specs.Authority.{isResource, holderOf, topHolder, holds}
+use Rattle.authority_rules.specs.Before.{heldBefore}
 use Rattle.authority_rules.specs.Gain.{Gain, maker, itself, endowed, argument, result}
 use Rattle.authority_rules.specs.Group.{groupHolds}
 use Rattle.authority_rules.specs.GroupGain.{Member, Outside, GroupGain, byMember, ofMember, keptByMember, onMember, toMember, GroupGuaranteed}
 use Rattle.authority_rules.proofs.GainGives.{gain-gives}
 use Rattle.authority_rules.proofs.Opened.{holding}
+use Rattle.authority_rules.proofs.SmallSheets.{sheetOf}
 use Rattle.authority_rules.proofs.GuaranteeUsed.{Makes, made-is}
 use Rattle.authority_rules.proofs.GroupGuaranteeHolds.{member-holds, held-member}
 
@@ -44,11 +48,11 @@ module _ {s : Sheet} {σ : State} {hs : List ℕ} {b : ℕ} where
 -- of every accepted text, after every n steps, for every list and every resource
 module _ (text : List ℕ) (s : Sheet) (read : meaning text ≡ readable s) (accepted : verdict text ≡ Accepted) (n : ℕ) (σ : State) (reached : after s n ≡ some σ)
     (a : Action) (σ′ : State) (e : nextStep s σ ≡ step a σ′) where
-  -- what a way gives, if it is a resource after the step, the group holds after it
-  pub group-gain-gives : (hs : List ℕ) (b : ℕ) → T (isResource s (σ′ .objects) b) → GroupGain s σ hs b a → T (groupHolds s σ′ hs b)
+  -- what a way gives, if it is a resource after the step, some member held after it when every slot and kept value counted
+  pub group-gain-gives : (hs : List ℕ) (b : ℕ) → T (isResource s (σ′ .objects) b) → GroupGain s σ hs b a → T (any (λ h. heldBefore s σ′ h b) hs)
   group-gain-gives hs b r g =
       let f = member-gains g in
-      member-holds s σ′ hs b (f .1) (gain-gives text s read accepted n σ reached a σ′ e (f .0) b r (f .2))
+      in-any (λ h. heldBefore s σ′ h b) hs (f .1) (gain-gives text s read accepted n σ reached a σ′ e (f .0) b r (f .2))
 
   -- from the group's rule alone
   module _ (g : GroupGuaranteed) where
@@ -73,10 +77,6 @@ module _ (text : List ℕ) (s : Sheet) (read : meaning text ≡ readable s) (acc
         go (toMember r x k q m) = absurd (x inside)
 
 -- WHAT IS FALSE
-
-sheetOf : Meaning → Sheet
-sheetOf (readable s) = s
-sheetOf (unreadable r n) = record { rows = []; forms = []; main = [] }
 
 -- that a creation, too, comes from outside: main makes P's scale in its second step, and a group of main alone did not hold it
 pub no-outside-creation : ((text : List ℕ) (s : Sheet) → meaning text ≡ readable s → verdict text ≡ Accepted → (n : ℕ) (σ : State) → after s n ≡ some σ

@@ -1,4 +1,5 @@
 pub mod Opened
+pub mod SmallSheets
 pub mod CasesHold
 pub mod AuthorityCases
 pub mod GroupCases
@@ -6,6 +7,7 @@ pub mod AuthorityLaws
 pub mod GroupLaws
 pub mod ReportLaws
 pub mod HoldingLaws
+pub mod CountedLaws
 pub mod StableLaws
 pub mod KindLaws
 pub mod GainWorks
@@ -16,5 +18,7 @@ pub mod GainLaws
 pub mod GuaranteeHolds
 pub mod GuaranteeUsed
 pub mod GainGives
+pub mod BeforeLaws
+pub mod CountingRefuted
 pub mod GroupGuaranteeHolds
 pub mod GroupGuaranteeUsed

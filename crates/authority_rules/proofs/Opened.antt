@@ -3,7 +3,9 @@
 use Rattle.lists.specs.AnyAll.{any, all}
 use Rattle.lists.specs.Contains.{contains}
 use Rattle.lists.specs.Passing.{passing}
-use Rattle.authority_rules.specs.Authority.{isResource, holderOf, slotsOf, reached, holds, authority}
+use Rattle.lists.specs.AtPlaces.{atPlaces}
+use Rattle.sheet_rules.specs.Sheet.{codeNames}
+use Rattle.authority_rules.specs.Authority.{isResource, holderOf, slotsOf, reachedBy, holdsBy, authority}
 use Rattle.authority_rules.specs.AuthorityQuestion.{authorityHeld}
 use Rattle.authority_rules.specs.Group.{groupHolds, groupAuthority, groupHeld}
 use Rattle.authority_rules.specs.Report.{report}
@@ -12,5 +14,5 @@ use Rattle.authority_rules.specs.Printed.{verdictWord, lineWord, outcome
 use Rattle.machine_rules.proofs.Opened.{running}
 
 unfoldable pub holding : Unit {0}
-unfolding isResource holderOf slotsOf reached contains holds passing authority authorityHeld any all groupHolds groupAuthority groupHeld report decimalUpTo decimal further verdictWord lineWord outcomeWord stepsWord valueWord holderWord holderLines printed running
+unfolding isResource holderOf codeNames atPlaces slotsOf reachedBy contains holdsBy passing authority authorityHeld any all groupHolds groupAuthority groupHeld report decimalUpTo decimal further verdictWord lineWord outcomeWord stepsWord valueWord holderWord holderLines printed running
 holding = tt

@@ -29,7 +29,7 @@ holders-exactly s σ h =
     λ i. eqb-sym mainHolder h i || passing-exactly (isResource s (σ .objects)) (length (σ .objects)) h (resource-below s (σ .objects) h) i
 
 -- P's report is printed as the paper says, and after a refusal only the first two lines (document 01, One sheet in full)
-pub of-P : printed (report (textOf P) 10000) ≡ textOf ("verdict=0" ∷ "line=0" ∷ "outcome=0" ∷ "steps=8" ∷ "value=0" ∷ "holder=256,1,2" ∷ "holder=1,1" ∷ "holder=2,1,2" ∷ [])
+pub of-P : printed (report (textOf P) 10000) ≡ textOf ("verdict=0" ∷ "line=0" ∷ "outcome=0" ∷ "steps=8" ∷ "value=0" ∷ "holder=256" ∷ "holder=1,1" ∷ "holder=2,1,2" ∷ [])
 unfolding holding
 of-P = refl
 

@@ -1,21 +1,20 @@
--- What a step leaves as it is: resources stay resources, frames keep their holders, and what was in a holder's slots stays there;
--- and what one slot more adds. Assumes nothing.
+-- What a step leaves as it is: resources stay resources, frames keep their holders, and what was in a holder's slots stays there.
+-- Assumes nothing.
 use Prim.Native.Nat.{ℕ, _<_}
 use native.Mathlib.Omega.{arith}
 use mathlib.Core.Path.{_≡_, refl, sym, ap, _∙_}
 use mathlib.Core.Bool.{Bool, cond, _&&_}
 use mathlib.Core.List.{List, [], _∷_}
 use mathlib.Core.Option.{Option}
-use mathlib.Core.Logic.{_⊎_, inl, inr}
 use lib.ListN.{length}
 use borrow.Author.Tests.{lt-ltb}
-use Rattle.lists.specs.In.{In}
-use Rattle.lists.proofs.InLaws.{in-snoc}
-use Rattle.sheet_rules.specs.Sheet.{Sheet, Instr, rowOfForm}
+use Rattle.lists.proofs.AtPlacesLaws.{places-in}
+use Rattle.sheet_rules.specs.Sheet.{Sheet, rowOfForm, codeNames}
 use Rattle.type_rules.specs.Typing.{Own}
-use Rattle.machine_rules.specs.State.{Object, Frame, State, objectAt, filled, past}
+use Rattle.machine_rules.specs.State.{Object, Frame, State, objectAt}
 use Rattle.machine_rules.specs.Sound.{Receives, main, object, SoundFrame, SoundBelow, bottom, waits, Sound}
 use Rattle.machine_rules.proofs.StoreLaws.{values-made, Grows}
+use Rattle.authority_rules.specs.Counted.{waitingSlots}
 use Rattle.authority_rules.specs.Authority.{isResourceKind, isResource, frames, frameHolder, holderOf}
 use Rattle.authority_rules.proofs.HoldingLaws.{SlotOf, this, later}
 
@@ -32,9 +31,9 @@ below-frames (waits r f c l t b) = more f (below-frames b)
 pub all-frames : (s : Sheet) (σ : State) → Sound s σ → SoundFrames s (σ .objects) (frames σ)
 all-frames s σ c = more (c .top) (below-frames (c .below))
 
-pub slot-made : {s : Sheet} {os : List Object} {h b : ℕ} {fs : List Frame} → SoundFrames s os fs → SlotOf s os h b fs → b < length os
-slot-made (more f r) (this e i) = values-made (f .slots) i
-slot-made (more f r) (later p) = slot-made r p
+pub slot-made : {s : Sheet} {os : List Object} {h b : ℕ} {fs : List Frame} → SoundFrames s os fs → SlotOf s os waitingSlots h b fs → b < length os
+slot-made (more {f = f} c r) (this e i) = values-made (c .slots) (places-in (codeNames (f .code)) (f .slots) i)
+slot-made (more c r) (later p) = slot-made r p
 
 module _ (s : Sheet) (os os′ : List Object) (g : Grows os os′) where
   -- an object stays the resource, or the pure object, that it is
@@ -55,21 +54,7 @@ module _ (s : Sheet) (os os′ : List Object) (g : Grows os os′) where
   holder-same no-frame = refl
   holder-same (more {fs = fs} f r) = receiver-same (holderOf s os′ fs) (holderOf s os fs) (holder-same r) (f .receives)
 
-  -- the slots of a holder's frames are those that it had
-  pub slot-same : {h b : ℕ} {fs : List Frame} → SoundFrames s os fs → SlotOf s os′ h b fs → SlotOf s os h b fs
+  -- the slots of a holder's frames that count are those that did
+  pub slot-same : {count : Frame → List ℕ} {h b : ℕ} {fs : List Frame} → SoundFrames s os fs → SlotOf s os′ count h b fs → SlotOf s os count h b fs
   slot-same (more f r) (this e i) = this (sym (holder-same (more f r)) ∙ e) i
   slot-same (more f r) (later p) = later (slot-same r p)
-
-  -- one slot more in a frame: what is new is that slot's value, and it is the frame's holder that gets it
-  pub slot-filled : {h b : ℕ} (f : Frame) (fs : List Frame) (is : List Instr) (v : ℕ) → SoundFrames s os (f ∷ fs)
-      → SlotOf s os′ h b (filled (past f is) v ∷ fs) → SlotOf s os h b (f ∷ fs) ⊎ ((h ≡ holderOf s os (f ∷ fs)) × (b ≡ v))
-  unfolding holderOf
-  slot-filled {h} {b} f fs is v (more c r) (later p) = inl (later (slot-same r p))
-  slot-filled {h} {b} f fs is v (more c r) (this e i) = go (in-snoc (f .slots) i)
-    where
-      same : holderOf s os (f ∷ fs) ≡ h
-      same = sym (holder-same (more c r)) ∙ e
-
-      go : In b (f .slots) ⊎ (b ≡ v) → SlotOf s os h b (f ∷ fs) ⊎ ((h ≡ holderOf s os (f ∷ fs)) × (b ≡ v))
-      go (inl j) = inl (this same j)
-      go (inr k) = inr (sym same, k)

@@ -1,4 +1,5 @@
--- Holders and their authority (document 01, Who holds what). Stands on the states of the machine.
+-- Holders and their authority (document 01, Who holds what; document 02, order 6). Stands on the states of the machine and on what
+-- counts of them.
 use Prim.Native.Nat.{ℕ}
 use mathlib.Core.Bool.{Bool, true, false, cond, _&&_, _||_}
 use mathlib.Core.List.{List, [], _∷_, _++_}
@@ -11,6 +12,7 @@ use Rattle.sheet_rules.specs.declared.Kind.{Kind}
 use Rattle.sheet_rules.specs.declared.Kind.the-variants.{Pure, Resource}
 use Rattle.sheet_rules.specs.Sheet.{Sheet, rowOfForm}
 use Rattle.machine_rules.specs.State.{Object, Frame, State, objectAt}
+use Rattle.authority_rules.specs.Counted.{Counting, usable}
 
 -- main's number as a holder (Who holds what)
 abbrev pub mainHolder : ℕ
@@ -48,40 +50,40 @@ holderOf s os (f ∷ fs) = frameHolder s os (f .own) (holderOf s os fs)
 abbrev pub topHolder : Sheet → State → ℕ
 topHolder s σ = holderOf s (σ .objects) (frames σ)
 
--- the slots of a frame that count: all that are filled (Who holds what)
-abbrev pub countedSlots : Frame → List ℕ
-countedSlots f = f .slots
-
 -- what a frame adds to h's slots: those that count, if it belongs to h (Who holds what)
 abbrev pub slotsIf : Bool → List ℕ → List ℕ
 slotsIf true slots = slots
 slotsIf false slots = []
 
 -- the slots that count of those frames that belong to h (Who holds what)
-unfoldable pub slotsOf : Sheet → List Object → ℕ → List Frame → List ℕ
-slotsOf s os h [] = []
-slotsOf s os h (f ∷ fs) = slotsIf (eqb (holderOf s os (f ∷ fs)) h) (countedSlots f) ++ slotsOf s os h fs
+unfoldable pub slotsOf : (Frame → List ℕ) → Sheet → List Object → ℕ → List Frame → List ℕ
+slotsOf count s os h [] = []
+slotsOf count s os h (f ∷ fs) = slotsIf (eqb (holderOf s os (f ∷ fs)) h) (count f) ++ slotsOf count s os h fs
 
--- the kept values of an object that count: all of them (Who holds what)
-abbrev pub countedKept : Object → List ℕ
-countedKept o = o .kept
+-- of a state: the top frame's if it belongs to h, and those of the frames below it, which wait (Who holds what; order 6)
+abbrev pub heldSlots : Counting → Sheet → State → ℕ → List ℕ
+heldSlots c s σ h = slotsIf (eqb (topHolder s σ) h) (c .top (σ .top)) ++ slotsOf (c .waiting) s (σ .objects) h (σ .below)
 
 -- what an object adds to its own authority as a holder: itself, its kept values that count and its fields (Who holds what)
-abbrev pub ownValues : ℕ → Object → List ℕ
-ownValues h o = h ∷ (countedKept o ++ o .fields)
+abbrev pub ownValues : Counting → Sheet → ℕ → Object → List ℕ
+ownValues c s h o = h ∷ (c .kept s o ++ o .fields)
 
--- what h can reach: main only the slots of its frames; a resource object also what is its own; any other number nothing
--- (Who holds what)
-unfoldable pub reached : Sheet → State → ℕ → List ℕ
-reached s σ h =
-    cond (eqb h mainHolder) (slotsOf s (σ .objects) h (frames σ))
+-- what h can reach by a way of counting: main only the slots of its frames; a resource object also what is its own; any other number
+-- nothing (Who holds what)
+unfoldable pub reachedBy : Counting → Sheet → State → ℕ → List ℕ
+reachedBy c s σ h =
+    cond (eqb h mainHolder) (heldSlots c s σ h)
     (cond (isResource s (σ .objects) h)
-    (ownValues h (objectAt (σ .objects) h) ++ slotsOf s (σ .objects) h (frames σ))
+    (ownValues c s h (objectAt (σ .objects) h) ++ heldSlots c s σ h)
     [])
 
--- h holds b: b is a resource object that h can reach (Who holds what)
-unfoldable pub holds : Sheet → State → ℕ → ℕ → Bool
-holds s σ h b = isResource s (σ .objects) b && contains (reached s σ h) b
+-- h holds b by a way of counting: b is a resource object that h can reach (Who holds what)
+unfoldable pub holdsBy : Counting → Sheet → State → ℕ → ℕ → Bool
+holdsBy c s σ h b = isResource s (σ .objects) b && contains (reachedBy c s σ h) b
+
+-- h holds b: by what can still be used (Who holds what; order 6)
+abbrev pub holds : Sheet → State → ℕ → ℕ → Bool
+holds = holdsBy usable
 
 -- a holder's authority, ascending (Who holds what)
 unfoldable pub authority : Sheet → State → ℕ → List ℕ

@@ -1,4 +1,6 @@
+pub mod Counted
 pub mod Authority
+pub mod Before
 pub mod Gain
 pub mod Guarantee
 pub mod AuthorityQuestion

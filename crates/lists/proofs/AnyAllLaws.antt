@@ -1,5 +1,6 @@
 -- Laws of `any` and `all`: by membership, one element after another, and of lists with the same elements. Assumes nothing.
-use Prim.Native.Nat.{ℕ, suc, _<_}
+use Prim.Native.Nat.{ℕ, suc, _+_, _<_}
+use native.Mathlib.Numerals.{add-one}
 use mathlib.Core.Path.{_≡_, refl, sym, ap, _∙_, subst}
 use mathlib.Core.Bool.{Bool, true, false, _&&_, _||_, or-false, or-assoc, and-true, and-assoc}
 use mathlib.Core.List.{List, [], _∷_, _++_}
@@ -9,6 +10,8 @@ use lib.ListN.{length, getD, take}
 use lib.Seq.{take-suc}
 use Rattle.lists.specs.In.{In, here, there}
 use Rattle.lists.specs.AnyAll.{any, all}
+use Rattle.lists.specs.Tab.{tab}
+use Rattle.lists.proofs.TabLaws.{tab-suc}
 use Rattle.lists.proofs.Tests.{and-left, and-right, and-intro, or-left, or-right, or-cases, T-ext}
 
 module _ {A : Type 0} (test : A → Bool) where
@@ -49,6 +52,9 @@ module _ {A : Type 0} (test : A → Bool) where
   unfolding all
   all-snoc [] x = and-true (test x)
   all-snoc (y ∷ xs) x = ap (λ (b : Bool). test y && b) (all-snoc xs x) ∙ sym (and-assoc (test y) (all test xs) (test x))
+
+  pub any-tab : (f : ℕ → A) (n : ℕ) → any test (tab f (n + 1)) ≡ (any test (tab f n) || test (f n))
+  any-tab f n = ap (any test) (ap (tab f) (add-one n) ∙ tab-suc f n) ∙ any-snoc (tab f n) (f n)
 
   pub any-take : (xs : List A) (i : ℕ) (d : A) → i < length xs → any test (take (suc i) xs) ≡ (any test (take i xs) || test (getD xs i d))
   any-take xs i d h = ap (any test) (take-suc xs i d h) ∙ any-snoc (take i xs) (getD xs i d)

@@ -6,5 +6,6 @@ pub mod PutAtLaws
 pub mod ContainsLaws
 pub mod AnyAllLaws
 pub mod PassingLaws
+pub mod AtPlacesLaws
 pub mod BeforeNthLaws
 pub mod EachLaws

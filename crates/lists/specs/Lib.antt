@@ -5,5 +5,6 @@ pub mod PutAt
 pub mod Contains
 pub mod AnyAll
 pub mod Passing
+pub mod AtPlaces
 pub mod BeforeNth
 pub mod Each

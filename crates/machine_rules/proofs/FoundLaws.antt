@@ -1,7 +1,7 @@
 -- What look-ups find: the body of a method in a well-typed form, the place of a field, the own object's field, the last slot. Assumes nothing.
-use Prim.Native.Nat.{ℕ, suc, pred, _≤_, _<_}
+use Prim.Native.Nat.{ℕ, suc, pred, _<_}
 use native.Mathlib.Omega.{arith}
-use mathlib.Core.Path.{_≡_, refl, ap, _∙_, subst}
+use mathlib.Core.Path.{_≡_, refl, sym, ap, _∙_, subst}
 use mathlib.Core.Bool.{Bool, true, false, cond}
 use mathlib.Core.List.{List, [], _∷_}
 use mathlib.Core.Option.{Option, some}
@@ -13,9 +13,8 @@ use Rattle.lists.specs.Pairwise.{Pairwise, pair}
 use Rattle.lists.proofs.Tests.{clash}
 use Rattle.sheet_rules.specs.declared.Member.{Member}
 use Rattle.sheet_rules.specs.declared.Member.the-variants.{Method, Field}
-use Rattle.sheet_rules.specs.Limits.{bodyLimit}
 use Rattle.sheet_rules.specs.Sheet.{Instr, Part, body, Form, Sheet}
-use Rattle.sheet_rules.specs.WellFormed.{PartOf}
+use Rattle.sheet_rules.specs.WellFormed.{WellFormedBody, PartOf}
 use Rattle.type_rules.specs.Typing.{Signature, methodIn, fieldIn, membersAt, Own, ownField, bodyRows}
 use Rattle.type_rules.specs.Typed.{CodeTyped, PartTyped, typed-init, typed-body}
 use Rattle.machine_rules.specs.State.{Object, objectAt, lastOf}
@@ -58,17 +57,18 @@ body-found {s} {f} n m (pair {xs = ms} {ys = ps} (typed-body {n = k} {a = a} {r 
           typed = b .typed;
         }
 
--- it is no longer than a body may be
-pub body-few : {forms keeps : ℕ} {ms : List Member} {ps : List Part} (n : ℕ) (is : List Instr) → Pairwise (PartOf forms keeps) ms ps
-    → bodyIn ms ps n ≡ some is → length is ≤ bodyLimit
+-- a body that is found is one of the form's parts, and well formed
+pub body-formed : {forms keeps : ℕ} {ms : List Member} {ps : List Part} (n : ℕ) (is : List Instr) → Pairwise (PartOf forms keeps) ms ps
+    → bodyIn ms ps n ≡ some is → In (body is) ps × WellFormedBody forms (suc (suc keeps)) is
 unfolding bodyIn
-body-few n is Pairwise.none e = clash (cc)
-body-few n is (pair (PartOf.field h) p) e = body-few n is p e
-body-few n is (pair {xs = ms} {ys = ps} (PartOf.method {n = k} {is = js} w) p) e = go (eqb k n) e (body-few n is p)
+body-formed n is Pairwise.none e = clash (cc)
+body-formed n is (pair (PartOf.field h) p) e = let f = body-formed n is p e in (there (f .0), f .1)
+body-formed {forms} {keeps} n is (pair {xs = ms} {ys = ps} (PartOf.method {n = k} {is = js} w) p) e = go (eqb k n) e (body-formed n is p)
   where
-    go : (b : Bool) → cond b (some js) (bodyIn ms ps n) ≡ some is → (bodyIn ms ps n ≡ some is → length is ≤ bodyLimit) → length is ≤ bodyLimit
-    go true e more = let same : js ≡ is = cc in subst (λ (x : List Instr). length x ≤ bodyLimit) same (w .few)
-    go false e more = more e
+    go : (b : Bool) → cond b (some js) (bodyIn ms ps n) ≡ some is → (bodyIn ms ps n ≡ some is → In (body is) ps × WellFormedBody forms (suc (suc keeps)) is)
+        → In (body is) (body js ∷ ps) × WellFormedBody forms (suc (suc keeps)) is
+    go true e more = let same : js ≡ is = cc in (here (ap body (sym same)), subst (WellFormedBody forms (suc (suc keeps))) same w)
+    go false e more = let f = more e in (there (f .0), f .1)
 
 -- the place that a field of a row has
 pub record HasField (ms : List Member) (n r : ℕ) : Type 0 where

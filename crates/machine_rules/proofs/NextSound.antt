@@ -27,7 +27,7 @@ use Rattle.machine_rules.specs.Step.{Next, step, storeFull, stackFull, c
 use Rattle.machine_rules.specs.Stopped.{BeginsWithNew, a-new, BeginsWithCall, a-call}
 use Rattle.machine_rules.specs.Sound.{Is, fieldRows, SoundObject, object, slotLimit, SoundBelow, bottom, waits, Sound}
 use Rattle.machine_rules.proofs.NextLaws.{Comes, its-end, its-step, its-store, its-stack}
-use Rattle.machine_rules.proofs.FoundLaws.{HasBody, body-found, body-few, HasField, field-found, OwnField, own-field, own-found, lastOf-at}
+use Rattle.machine_rules.proofs.FoundLaws.{HasBody, body-found, body-formed, HasField, field-found, OwnField, own-field, own-found, lastOf-at}
 use Rattle.machine_rules.proofs.StoreLaws.{Grows, grows-refl, grows-append, grows-set, is-grows, frame-grows, below-grows, SoundStore, store-append, store-set, is-fits, slot-is, slot-fits, values-fit, initial-fit}
 
 -- what comes next after the given code of the top frame: the end, a step to a sound state, or stopped for its reason; never lacking
@@ -170,7 +170,7 @@ module _ (s : Sheet) (w : WellFormed s) (t : Typed s) (σ : State) (c : Sound s 
       kept-few = omega (arith, pairwise-length (there .kept), wellFormed .few)
 
       body-short : length (has .code) ≤ bodyLimit
-      body-short = body-few n (has .code) (wellFormed .parts) (has .lookedUp)
+      body-short = body-formed n (has .code) (wellFormed .parts) (has .lookedUp) .1 .few
 
       own : Is s (σ .objects) receiver (f .row)
       own = record { made = is-receiver .made; fit = fits-refl (s .rows) (f .row) }

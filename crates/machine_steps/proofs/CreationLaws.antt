@@ -4,34 +4,27 @@ use Prim.Native.Nat.{ℕ, zero, suc, _+_, _≤_, _<_}
 use native.Mathlib.Omega.{arith}
 use native.Mathlib.Numerals.{add-one}
 use native.Mathlib.Decide.{decLe}
-use mathlib.Core.Path.{_≡_, refl, sym, ap, ap₂, _∙_, subst}
+use mathlib.Core.Path.{_≡_, refl, sym, ap, _∙_, subst}
 use mathlib.Core.List.{List, [], _∷_}
-use lib.ListN.{length, getD, set, take, drop}
+use lib.ListN.{length, getD, set, drop}
 use lib.Seq.{getD-set-same, getD-set-other, drop-cons, drop-length}
 use Rattle.lists.specs.In.{In, here, there}
 use Rattle.lists.specs.Pairwise.{Pairwise, pair}
-use Rattle.lists.proofs.TabLaws.{length-tab, getD-tab, tab-ext}
+use Rattle.lists.proofs.TabLaws.{length-tab, getD-tab}
 use Rattle.sheet_rules.specs.declared.Member.{Member}
 use Rattle.sheet_rules.specs.Sheet.{Part, init, body}
 use Rattle.sheet_rules.specs.WellFormed.{PartOf}
 use Rattle.machine_rules.specs.State.{initialFields}
 use Rattle.machine_rules.specs.Sound.{fieldRows}
-use Rattle.table.specs.Layout.{formAddress, instrAddress, objectAddress, workSize, keptAddress, fieldAddress, slotAddress}
+use Rattle.table.specs.Layout.{formAddress, objectAddress, workSize, keptAddress, fieldAddress, slotAddress}
 use Rattle.table.specs.View.{cell, instrsIn, partIn, partsIn}
 use Rattle.table.specs.Told.{newSlots, partTold}
 use Rattle.table.specs.Only.{Only}
 use Rattle.table.specs.declared.forms.PartPlace.{PartPlace}
-use Rattle.table.proofs.ViewLaws.{SameTable, only-refl, only-trans, only-set, only→same, partIn-same}
+use Rattle.table.proofs.ViewLaws.{only-refl, only-trans, only-set, only→same, newSlots-same, partIn-same}
 use Rattle.machine_steps.specs.Created.{Keepable, KeptFrom, PartStarts, FormStarts, startPut, startCount, fieldsStarted}
 
 -- THE KEPT VALUES
-
--- the slots that a `new` names depend on the table alone
-pub slots-same : (w w′ : List ℕ) → SameTable w w′ → (p : ℕ) → newSlots w′ p ≡ newSlots w p
-unfolding newSlots
-slots-same w w′ h p =
-    ap₂ (λ (n : ℕ) (ns : List ℕ). drop 1 (take n ns)) (h (instrAddress p + 1) (omega arith))
-    (tab-ext (λ k. cell w′ (instrAddress p + (2 + k))) (λ k. cell w (instrAddress p + (2 + k))) 9 (λ k u. h (instrAddress p + (2 + k)) (omega arith)))
 
 -- w is w₀ with the first k values kept
 pub record Keeping (w₀ : List ℕ) (f p o count : ℕ) (w : List ℕ) (k : ℕ) : Type 0 where
@@ -44,7 +37,7 @@ keeping-start w f p o count = record { within = omega arith; only = only-refl _ 
 
 module _ (w₀ : List ℕ) (f p o count : ℕ) (a : Keepable w₀ f p o count) (w : List ℕ) (k : ℕ) (s : Keeping w₀ f p o count w k) where
   slots-are : newSlots w p ≡ newSlots w₀ p
-  slots-are = slots-same w₀ w (only→same _ _ w₀ w (omega arith) (s .only)) p
+  slots-are = newSlots-same w₀ w (only→same _ _ w₀ w (omega arith) (s .only)) p
 
   long : workSize ≤ length w
   long = omega (arith, s .only .size, a .size)

@@ -20,7 +20,7 @@ use Rattle.table.specs.Layout.{formAddress, objectAddress, workSize, keptAddres
 use Rattle.table.specs.View.{cell, instrsIn, partIn, partsIn, sheetIn}
 use Rattle.table.specs.Told.{newSlots}
 use Rattle.table.specs.Only.{Only}
-use Rattle.table.proofs.ViewLaws.{SameTable, only-trans, only-widen, only-set, only→same, partIn-same, sheetIn-same}
+use Rattle.table.proofs.ViewLaws.{SameTable, only-trans, only-widen, only-set, only→same, partIn-same, sheetIn-same, newSlots-same}
 use Rattle.table.proofs.SheetLaws.{form-well, parts-are, parts-pairwise, parts-length, part-there}
 use Rattle.machine_state.specs.declared.Top.{Top}
 use Rattle.machine_state.specs.Held.{objectsIn, slotsIn, past, filled, stateIn}
@@ -29,7 +29,7 @@ use Rattle.machine_state.proofs.ObjectLaws.{MadeAt, made-there, objects-more}
 use Rattle.machine_steps.specs.Running.{Facing, Took}
 use Rattle.machine_steps.specs.Created.{Keepable, KeptFrom, FormStarts, fieldsStarted}
 use Rattle.machine_steps.proofs.FacingLaws.{frames-few, size, slot-is, took-moved, code-is, next-small, filled-small, fill-asks}
-use Rattle.machine_steps.proofs.CreationLaws.{slots-same, started-only, starts-few, starts-count, started-at}
+use Rattle.machine_steps.proofs.CreationLaws.{started-only, starts-few, starts-count, started-at}
 
 -- a value of a mapped list
 map-at : (f : ℕ → ℕ) (xs : List ℕ) (i : ℕ) → i < length xs → getD (map f xs) i 0 ≡ f (getD xs i 0)
@@ -75,7 +75,7 @@ module _ (w : List ℕ) (t : Top) (k : Tally) (form : ℕ) (a : Facing w t k (ne
         (only-set (objectAddress o) (objectAddress o + 1) w (objectAddress o) form (omega arith) (omega arith))
 
     named₁ : newSlots w₁ (t .next) ≡ named
-    named₁ = slots-same w w₁ (only→same _ _ w w₁ (omega arith) only₁) (t .next)
+    named₁ = newSlots-same w w₁ (only→same _ _ w w₁ (omega arith) only₁) (t .next)
 
     -- the form is stored, and the values can be kept
     pub keeps : (g : ℕ) → g ≡ form → (count : ℕ) → (count ≡ length ((formAt (sheetIn w) g) .keeps)) × (count ≤ 8) → Keepable w₁ f (t .next) o count

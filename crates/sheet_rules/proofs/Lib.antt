@@ -17,3 +17,4 @@ pub mod TextLines
 pub mod StretchLaws
 pub mod StretchCases
 pub mod DistinctLaws
+pub mod NamesCases

@@ -1,8 +1,11 @@
 -- What a sheet says, as a value: rows, forms and main (document 01, The sheet). Stands on the shared types alone.
 use Prim.Native.Nat.{ℕ, _+_}
+use mathlib.Core.Bool.{Bool, false}
 use mathlib.Core.List.{List, [], _∷_}
 use mathlib.Core.Option.{Option, none, some}
 use lib.ListN.{length, getD}
+use Rattle.lists.specs.AnyAll.{any}
+use Rattle.lists.specs.Contains.{contains}
 use Rattle.sheet_rules.specs.declared.Kind.{Kind}
 use Rattle.sheet_rules.specs.declared.Kind.the-variants.{Pure}
 use Rattle.sheet_rules.specs.declared.Member.{Member}
@@ -34,6 +37,10 @@ namedSlots (get n) = []
 namedSlots (put n v) = v ∷ []
 namedSlots (copy v) = v ∷ []
 
+-- some instruction of a code names slot v (document 02, order 6)
+unfoldable pub codeNames : List Instr → ℕ → Bool
+codeNames is v = any (λ i. contains (namedSlots i) v) is
+
 -- the form that an instruction names: that of a `new` (The sheet, forms and main)
 abbrev pub namedForm : Instr → Option ℕ
 namedForm (new f ss) = some f
@@ -63,11 +70,20 @@ pub data Part : Type 0 where
   init : ℕ → Part
   body : List Instr → Part
 
+-- a part names slot v: a body by its instructions; an `init` names no slot (document 02, order 6)
+abbrev pub partNames : Part → ℕ → Bool
+partNames (init k) v = false
+partNames (body is) v = codeNames is v
+
 -- a form: its type row, the rows of its kept values, and a part for each member of its row, in order (The sheet)
 pub record Form : Type 0 where
   pub row : ℕ
   pub keeps : List ℕ
   pub parts : List Part
+
+-- some body of a form names slot v (document 02, order 6)
+abbrev pub formNames : Form → ℕ → Bool
+formNames f v = any (λ p. partNames p v) (f .parts)
 
 -- a sheet: its rows, its forms and main's instructions (The sheet)
 pub record Sheet : Type 0 where

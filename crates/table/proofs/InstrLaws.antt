@@ -7,6 +7,7 @@ use mathlib.Core.List.{List}
 use lib.ListN.{length, getD, take, drop, length-take, length-drop, List·getD-eq-default}
 use lib.Seq.{getD-take, getD-drop}
 use borrow.Author.Tests.{eq-eqb, ne-eqb}
+use Rattle.lists.specs.Tab.{tab}
 use Rattle.lists.proofs.TabLaws.{length-tab, getD-tab}
 use Rattle.sheet_rules.specs.Sheet.{Instr, new, call, get, put, copy, init, body}
 use Rattle.sheet_rules.specs.Reader.{nth}
@@ -70,6 +71,13 @@ module _ (w : List ℕ) (p b : ℕ) (place : b ≡ instrAddress p) where
       ap (cell w) e ∙ number (1 + k) (omega arith)
       ∙ sym (getD-take (cell w (instrAddress p + 1)) (numbersIn w p) (1 + k) 0 (let q : cell w (b + 1) ≡ cell w (instrAddress p + 1) = ap (λ (x : ℕ). cell w (x + 1)) place in omega arith))
       ∙ sym (getD-drop 1 (take (cell w (instrAddress p + 1)) (numbersIn w p)) k 0)
+
+-- a place beyond the pool has the instruction of its last one
+pub instr-within : (w : List ℕ) (p : ℕ) → instrIn w (min p 1023) ≡ instrIn w p
+unfolding instrIn
+instr-within w p =
+    let e : instrAddress (min p 1023) ≡ instrAddress p = omega arith in
+    ap (λ (a : ℕ). instrFrom (cell w a) (cell w (a + 1)) (tab (λ k. cell w (a + (2 + k))) 9)) e
 
 pub slot-missing : (ss : List ℕ) (k : ℕ) → length ss ≤ k → 0 ≡ getD ss k 0
 slot-missing ss k h = sym (List·getD-eq-default ss 0 h)

@@ -2,7 +2,7 @@
 use Prim.Native.Nat.{_+_, _<_}
 use native.Mathlib.Omega.{arith}
 use mathlib.Core.Path.{_≡_, refl}
-use Rattle.table.specs.Layout.{mainCountAt, rowAddress, memberAddress, formAddress, keepAddress, partAddress, instrAddress, poolAddress, tableEnd, fitAddress, placeAddress, slotRowAddress, objectAddress, keptAddress, fieldAddress, frameAddress, slotAddress, stateEnd, markAddress, marksEnd, workSize}
+use Rattle.table.specs.Layout.{mainCountAt, rowAddress, memberAddress, formAddress, keepAddress, partAddress, instrAddress, poolAddress, tableEnd, fitAddress, placeAddress, slotRowAddress, objectAddress, keptAddress, fieldAddress, frameAddress, slotAddress, stateEnd, markAddress, codeNotesAt, marksEnd, formNotesAddress, notesEnd, workSize}
 
 -- the parts, one after another
 pub record Planned : Type 0 where
@@ -18,8 +18,11 @@ pub record Planned : Type 0 where
   pub objects : objectAddress 255 + 17 ≡ frameAddress 0
   pub frames : frameAddress 63 + 48 ≡ stateEnd
   pub state : stateEnd ≡ markAddress 0
-  pub marks : markAddress 255 + 1 ≡ marksEnd
-  pub spare : marksEnd + 5040 ≡ workSize
+  pub marks : markAddress 255 + 1 ≡ codeNotesAt
+  pub notes : codeNotesAt + 44 ≡ marksEnd
+  pub noted : marksEnd ≡ formNotesAddress 0
+  pub formNotes : formNotesAddress 63 + 44 ≡ notesEnd
+  pub spare : notesEnd + 2180 ≡ workSize
   -- within a row, a form, an object and a frame
   pub members : memberAddress 0 7 + 4 ≡ rowAddress 1
   pub keeps : keepAddress 0 7 + 1 ≡ partAddress 0 0
@@ -44,6 +47,9 @@ planned =
       frames = refl;
       state = refl;
       marks = refl;
+      notes = refl;
+      noted = refl;
+      formNotes = refl;
       spare = refl;
       members = refl;
       keeps = refl;

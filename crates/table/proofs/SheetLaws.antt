@@ -1,4 +1,4 @@
--- The sheet of a whole buffer, by the numbers that the accessors read. Assumes nothing.
+-- The sheet of a whole buffer, by the numbers that the accessors read, and in a buffer that is changed above the table. Assumes nothing.
 use Prim.Native.Nat.{ℕ, suc, _+_, _≤_, _<_}
 use native.Mathlib.Omega.{arith}
 use native.Mathlib.Decide.{decLe}
@@ -11,11 +11,13 @@ use Rattle.lists.proofs.PairwiseLaws.{pairwise-length}
 use Rattle.lists.proofs.TabLaws.{length-tab, getD-tab}
 use Rattle.sheet_rules.specs.Limits.{keepLimit}
 use Rattle.sheet_rules.specs.Sheet.{Row, Part, init, Form, noRow, noMember, noForm, rowAt, formAt}
-use Rattle.sheet_rules.specs.WellFormed.{WellFormedRow, PartOf, WellFormedForm}
-use Rattle.table.specs.Layout.{rowCountAt, formCountAt, mainStartAt, mainCountAt, rowAddress, formAddress, keepAddress}
+use Rattle.sheet_rules.specs.WellFormed.{WellFormedRow, PartOf, WellFormedForm, WellFormed}
+use Rattle.table.specs.Layout.{rowCountAt, formCountAt, mainStartAt, mainCountAt, rowAddress, formAddress, keepAddress, tableEnd}
 use Rattle.table.specs.View.{cell, memberIn, rowIn, rowsIn, instrIn, instrsIn, partIn, partsIn, keepsIn, formIn, sheetIn}
+use Rattle.table.specs.Only.{Only}
 use Rattle.table.specs.Ready.{Ready}
 use Rattle.table.specs.Whole.{Whole}
+use Rattle.table.proofs.ViewLaws.{only→same, sheetIn-same}
 use Rattle.table.proofs.RowLaws.{rows-length, rows-ready, members-length, members-getD}
 
 module _ (w : List ℕ) where
@@ -135,3 +137,12 @@ module _ (w : List ℕ) where
       let b : length (instrsIn w (cell w mainStartAt) (cell w mainCountAt)) ≡ length ((sheetIn w) .main) = ap length main-is in
       let c = length-tab (λ k. instrIn w (cell w mainStartAt + k)) (cell w mainCountAt) in
       omega arith
+
+-- A BUFFER THAT IS CHANGED ABOVE THE TABLE
+
+module _ {lo hi : ℕ} {w w′ : List ℕ} (o : Only lo hi w w′) (l : tableEnd ≤ lo) where
+  pub only-sheet : sheetIn w′ ≡ sheetIn w
+  only-sheet = sheetIn-same w w′ (only→same lo hi w w′ l o)
+
+  pub only-whole : Whole w → Whole w′
+  only-whole h = record { size = omega (arith, h .size, o .size); sheet = subst WellFormed (sym only-sheet) (h .sheet) }

@@ -6,15 +6,16 @@ use mathlib.Core.Path.{_≡_, refl, ap, ap₂, _∙_}
 use mathlib.Core.Bool.{Bool, true, false, cond}
 use mathlib.Core.List.{List}
 use lib.Dec.{eqb}
-use lib.ListN.{set, length-set}
+use lib.ListN.{set, take, drop, length-set}
 use lib.Seq.{getD-set-other}
 use Rattle.lists.proofs.TabLaws.{tab-ext}
 use Rattle.sheet_rules.specs.declared.Member.{Member}
 use Rattle.sheet_rules.specs.Sheet.{Row, init, body}
 use Rattle.sheet_rules.specs.RowLines.{kindOf}
-use Rattle.table.specs.Layout.{rowCountAt, formCountAt, mainStartAt, mainCountAt, rowAddress, memberAddress, formAddress, keepAddress, partAddress, instrAddress, tableEnd}
+use Rattle.table.specs.Layout.{rowCountAt, formCountAt, mainStartAt, mainCountAt, rowAddress, memberAddress, formAddress, keepAddress, partAddress, instrAddress, numberCountAddress, numberAddress, tableEnd}
 use Rattle.table.specs.View.{cell, memberFrom, memberIn, membersIn, rowIn, rowsIn, numbersIn, instrFrom, instrIn, instrsIn, partFrom, partIn, keepsIn, partsIn, formIn, formsIn, sheetIn}
 use Rattle.table.specs.Only.{Only}
+use Rattle.table.specs.Told.{newSlots}
 
 -- Only: reflexive, composes, widens, and holds of a number that is set
 
@@ -141,6 +142,13 @@ module _ (w w′ : List ℕ) (h : SameTable w w′) where
 
   pub instrsIn-same : (p n : ℕ) → instrsIn w′ p n ≡ instrsIn w p n
   instrsIn-same p n = tab-ext (λ k. instrIn w′ (p + k)) (λ k. instrIn w (p + k)) n (λ k u. instrIn-same (p + k))
+
+  -- the slots that a `new` names
+  pub newSlots-same : (p : ℕ) → newSlots w′ p ≡ newSlots w p
+  unfolding newSlots
+  newSlots-same p =
+      ap₂ (λ (n : ℕ) (ns : List ℕ). drop 1 (take n ns)) (h (numberCountAddress p) (omega arith))
+      (tab-ext (λ k. cell w′ (numberAddress p k)) (λ k. cell w (numberAddress p k)) 9 (λ k u. h (numberAddress p k) (omega arith)))
 
   pub partIn-same : (f j : ℕ) → partIn w′ f j ≡ partIn w f j
   partIn-same f j = part-same w w′ f j (λ k l u. h k (omega arith)) (λ k l u d. instrIn-same k)

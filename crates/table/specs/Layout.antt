@@ -132,9 +132,21 @@ stateEnd = 27472
 abbrev pub markAddress : ℕ → ℕ
 markAddress b = 27472 + min b 255
 
--- and then room to spare, for devices, from here to the end
+-- 44 notes: the slots that the code of a frame names
+abbrev pub codeNotesAt : ℕ
+codeNotesAt = 27728
+
+-- marks and these notes end here
 abbrev pub marksEnd : ℕ
-marksEnd = 27728
+marksEnd = 27772
+
+-- 64 forms of 44 notes: the slots that its bodies name
+abbrev pub formNotesAddress : ℕ → ℕ
+formNotesAddress f = 27772 + 44 * min f 63
+
+-- and then room to spare, for devices, from here to the end
+abbrev pub notesEnd : ℕ
+notesEnd = 30588
 
 abbrev pub workSize : ℕ
 workSize = 32768

@@ -31,7 +31,7 @@ pub enum Instruction {
 }
 
 // A place in the pool, within its 1,024.
-fn within_pool(p: usize) -> usize
+pub fn within_pool(p: usize) -> usize
     ensures { λ r. ⌜ r ≡ min p 1023 ⌝ }
 {
     if p < 1023 {

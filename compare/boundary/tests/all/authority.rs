@@ -120,7 +120,7 @@ fn the_authority_agrees_on_3000_sheets() {
     assert!(seen.empty > 500, "{} empty", seen.empty);
     assert!(seen.one > 10_000, "{} of one", seen.one);
     assert!(seen.more > 5_000, "{} of more", seen.more);
-    assert!(seen.many > 50, "{} of many", seen.many);
+    assert!(seen.many > 15, "{} of many", seen.many);
 }
 
 #[test]
@@ -133,5 +133,19 @@ fn the_authority_agrees_on_600_mills() {
     assert!(seen.refusals[11] > 5_000, "{} refused", seen.refusals[11]);
     assert!(seen.empty > 50, "{} empty", seen.empty);
     assert!(seen.more > 5_000, "{} of more", seen.more);
-    assert!(seen.many > 50, "{} of many", seen.many);
+    assert!(seen.many > 5, "{} of many", seen.many);
+}
+
+/// Sheets whose slots and kept values are often named by nothing.
+#[test]
+fn the_authority_agrees_on_400_idle_sheets() {
+    let mut seen = Seen::default();
+    for index in 0..400 {
+        let text = generator::idle(63, index);
+        seen.compare_sheet(&text, index + 1, &format!("idle sheet {index}"));
+    }
+    assert!(seen.refusals[11] > 2_000, "{} refused", seen.refusals[11]);
+    assert!(seen.empty > 50, "{} empty", seen.empty);
+    assert!(seen.one > 2_000, "{} of one", seen.one);
+    assert!(seen.more > 2_000, "{} of more", seen.more);
 }

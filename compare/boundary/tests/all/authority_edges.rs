@@ -63,14 +63,15 @@ fn the_text_s_refusal_comes_before_the_holder_s() {
 #[test]
 fn the_clerk_s_three_sets() {
     for budget in [8, 9, 10_000, u32::MAX] {
-        holds(CLERK, budget, MAIN, &[1, 2]);
+        holds(CLERK, budget, MAIN, &[]);
         holds(CLERK, budget, 1, &[1]);
         holds(CLERK, budget, 2, &[1, 2]);
     }
-    holds(CLERK, 0, MAIN, &[]);
-    holds(CLERK, 1, MAIN, &[]);
-    holds(CLERK, 2, MAIN, &[1]);
-    holds(CLERK, 3, MAIN, &[1, 2]);
+    // The scale for the clerk's `new`, then the clerk for its call.
+    let before = [&[][..], &[], &[1], &[2], &[], &[], &[], &[]];
+    for (budget, held) in before.into_iter().enumerate() {
+        holds(CLERK, budget as u32, MAIN, held);
+    }
 }
 
 #[test]
@@ -87,7 +88,7 @@ fn the_paper_s_cases_without_a_holder() {
 #[test]
 fn a_full_stack_of_one_holder() {
     for budget in [65, 66, u32::MAX] {
-        holds(LOOP, budget, MAIN, &[1]);
+        holds(LOOP, budget, MAIN, &[]);
         holds(LOOP, budget, 1, &[1]);
         no_holder(LOOP, budget, 0);
     }
@@ -99,54 +100,59 @@ fn a_full_stack_of_one_holder() {
 fn a_pure_receiver_s_frame_belongs_to_the_holder_beneath() {
     let text = lines(
         "types=4 / type=0,0 / type=1,0 / type=0,1 / def=1,0,0 / type=1,1 / def=1,0,0 / forms=4 / \
-         form=0,0 / form=1,0 / form=2,0 / body=2 / new=1 / copy=1 / form=3,1 / keep=2 / body=1 / \
-         call=2,1,1 / main=5 / new=0 / new=2 / new=3,1 / call=1,1,0 / call=2,1,0",
+         form=0,0 / form=1,0 / form=2,0 / body=3 / new=1 / copy=2 / copy=1 / form=3,1 / keep=2 / \
+         body=1 / call=2,1,1 / main=5 / new=0 / new=2 / new=3,1 / call=1,1,0 / call=2,1,0",
     );
     holds(&text, 4, MAIN, &[2]);
-    // What the maker makes is main's, until the return.
+    // What the maker makes is main's, while a line still names it.
     holds(&text, 5, MAIN, &[2, 3]);
-    holds(&text, 6, MAIN, &[2, 3]);
-    holds(&text, 7, MAIN, &[2]);
+    holds(&text, 6, MAIN, &[2]);
+    holds(&text, 8, MAIN, &[2]);
+    holds(&text, 9, MAIN, &[]);
     holds(&text, 5, 2, &[2]);
     holds(&text, 5, 3, &[3]);
     no_holder(&text, 5, 1);
     // Called by the clerk, it makes for the clerk.
-    holds(&text, 10, 2, &[2, 4]);
-    holds(&text, 10, MAIN, &[2]);
+    holds(&text, 11, 2, &[2, 4]);
+    holds(&text, 11, MAIN, &[]);
     holds(&text, 12, 2, &[2]);
-    holds(&text, 13, 4, &[4]);
+    holds(&text, 15, 4, &[4]);
 }
 
-/// Object 1 keeps 0, and 2 keeps 1.
+/// Object 1 keeps 0, and 2 keeps 1; their body names what they keep.
 #[test]
 fn what_a_kept_value_keeps_is_not_held() {
     let text = lines(
-        "types=1 / type=1,0 / forms=2 / form=0,0 / form=0,1 / keep=0 / \
-         main=3 / new=0 / new=1,0 / new=1,1",
+        "types=2 / type=1,0 / type=1,1 / def=0,0,0 / forms=2 / form=0,0 / form=1,1 / keep=0 / \
+         body=1 / copy=2 / main=3 / new=0 / new=1,0 / new=1,1",
     );
     holds(&text, 3, 0, &[0]);
     holds(&text, 3, 1, &[0, 1]);
     holds(&text, 3, 2, &[1, 2]);
-    holds(&text, 3, MAIN, &[0, 1, 2]);
+    holds(&text, 3, MAIN, &[2]);
 }
 
 /// Object 1 makes 2 and its keeper 3, and gives the keeper to main.
 #[test]
 fn what_a_returned_value_keeps_is_not_held() {
     let text = lines(
-        "types=2 / type=1,0 / type=1,1 / def=0,0,0 / forms=3 / form=0,0 / form=0,1 / keep=0 / \
-         form=1,0 / body=2 / new=0 / new=1,2 / main=3 / new=0 / new=2 / call=1,0,0",
+        "types=2 / type=1,0 / type=1,1 / def=0,0,0 / forms=3 / form=0,0 / form=1,1 / keep=0 / \
+         body=1 / copy=2 / form=1,0 / body=2 / new=0 / new=1,2 / main=3 / new=0 / new=2 / \
+         call=1,0,0",
     );
-    holds(&text, 5, 1, &[0, 1, 2, 3]);
-    holds(&text, 5, MAIN, &[0, 1]);
+    holds(&text, 4, 1, &[1, 2]);
+    // The body's last slot, with the return still to come.
+    holds(&text, 5, 1, &[1, 3]);
+    holds(&text, 5, MAIN, &[]);
     // After the return.
     holds(&text, 6, 1, &[1]);
     holds(&text, 6, 3, &[2, 3]);
     holds(&text, 6, 2, &[2]);
-    holds(&text, 6, MAIN, &[0, 1, 3]);
+    holds(&text, 6, MAIN, &[3]);
 }
 
-/// Object 2 keeps 0; its field starts as 0 and is set to 1, then to 3.
+/// Object 2 keeps 0, which no body names; its field starts as 0 and is set
+/// to 1, then to 3.
 #[test]
 fn fields_are_counted() {
     let text = lines(
@@ -155,20 +161,42 @@ fn fields_are_counted() {
          new=0 / call=2,2,4",
     );
     holds(&text, 3, 2, &[0, 2]);
-    holds(&text, 6, 2, &[0, 1, 2]);
     // The argument beside the field, then the field set to it.
-    holds(&text, 8, 2, &[0, 1, 2, 3]);
-    holds(&text, 9, 2, &[0, 2, 3]);
-    holds(&text, 10, 2, &[0, 2, 3]);
-    holds(&text, 10, MAIN, &[0, 1, 2, 3]);
+    holds(&text, 4, 2, &[0, 1, 2]);
+    holds(&text, 6, 2, &[1, 2]);
+    holds(&text, 8, 2, &[1, 2, 3]);
+    holds(&text, 9, 2, &[2, 3]);
+    holds(&text, 10, 2, &[2, 3]);
+    holds(&text, 10, MAIN, &[3]);
 }
 
-/// A maker of this row, object 0, that makes 31 resources and calls itself.
+/// Eight kept values, of which two methods name the second and the last, the
+/// first of them in a `new` with as many slots as there can be.
+#[test]
+fn kept_values_that_some_body_names() {
+    let text = lines(
+        "types=2 / type=1,0 / type=1,2 / def=0,0,0 / def=1,0,0 / forms=3 / form=0,0 / form=1,8 / \
+         keep=0 / keep=0 / keep=0 / keep=0 / keep=0 / keep=0 / keep=0 / keep=0 / \
+         body=2 / new=2,3,3,3,3,3,3,3,1 / copy=1 / body=1 / copy=9 / form=0,8 / \
+         keep=0 / keep=0 / keep=0 / keep=0 / keep=0 / keep=0 / keep=0 / keep=0 / \
+         main=9 / new=0 / new=0 / new=0 / new=0 / new=0 / new=0 / new=0 / new=0 / \
+         new=1,0,1,2,3,4,5,6,7",
+    );
+    holds(&text, 9, 8, &[1, 7, 8]);
+    holds(&text, 8, MAIN, &[0, 1, 2, 3, 4, 5, 6, 7]);
+    holds(&text, 9, MAIN, &[8]);
+}
+
+/// A maker of this row, object 0, that makes 24 resources, calls itself, and
+/// would then give them to three keepers.
 pub fn maker(row: u16) -> Vec<u8> {
     let rows = "types=4\ntype=0,0\ntype=1,0\ntype=0,1\ndef=0,0,0\ntype=1,1\ndef=0,1,1\n";
-    let body = "new=0\n".repeat(31) + "call=0,0,1\n";
-    let form = format!("forms=2\nform=1,0\nform={row},0\nbody=32\n{body}");
-    format!("{rows}{form}main=2\nnew=1\ncall=0,0,0\n").into_bytes()
+    let made = "new=0\n".repeat(24) + "call=0,0,1\n";
+    let given = "new=2,2,3,4,5,6,7,8,9\nnew=2,10,11,12,13,14,15,16,17\n\
+                 new=2,18,19,20,21,22,23,24,25\ncopy=1\n";
+    let keeper = String::from("form=1,8\n") + &"keep=1\n".repeat(8);
+    let forms = format!("forms=3\nform=1,0\nform={row},0\nbody=29\n{made}{given}{keeper}");
+    format!("{rows}{forms}main=2\nnew=1\ncall=0,0,0\n").into_bytes()
 }
 
 fn ascending(first: u16, last: u16) -> Vec<u16> {
@@ -178,41 +206,47 @@ fn ascending(first: u16, last: u16) -> Vec<u16> {
 #[test]
 fn a_holder_of_all_256_objects() {
     let text = maker(3);
-    // 256 creations and 9 calls; then the store is full.
-    for budget in [265, 266, u32::MAX] {
+    // 256 creations and 11 calls; then the store is full.
+    for budget in [267, 268, u32::MAX] {
         holds(&text, budget, 0, &ascending(0, 255));
-        holds(&text, budget, MAIN, &[0]);
+        holds(&text, budget, MAIN, &[]);
         holds(&text, budget, 1, &[1]);
         holds(&text, budget, 255, &[255]);
         no_holder(&text, budget, 257);
     }
-    holds(&text, 264, 0, &ascending(0, 254));
-    no_holder(&text, 264, 255);
+    holds(&text, 266, 0, &ascending(0, 254));
+    no_holder(&text, 266, 255);
 }
 
 #[test]
 fn main_holds_what_a_pure_receiver_makes_in_a_full_store() {
     let text = maker(2);
     holds(&text, u32::MAX, MAIN, &ascending(1, 255));
-    holds(&text, 264, MAIN, &ascending(1, 254));
+    holds(&text, 266, MAIN, &ascending(1, 254));
     holds(&text, u32::MAX, 255, &[255]);
     no_holder(&text, u32::MAX, 0);
 }
 
-/// Main calls a maker of 31 eight times, and makes six itself.
+/// Main calls a maker of 31 eight times, makes one more, and gives the eight
+/// to a keeper.
 #[test]
-fn main_holds_what_it_made_and_was_given() {
+fn main_holds_what_it_was_given_for_later() {
     let text = format!(
-        "types=2\ntype=1,0\ntype=1,1\ndef=0,0,0\nforms=2\nform=0,0\nform=1,0\nbody=31\n{}\
-         main=16\nnew=0\nnew=1\n{}{}",
+        "types=2\ntype=1,0\ntype=1,1\ndef=0,0,0\nforms=3\nform=0,0\nform=1,0\nbody=31\n{}\
+         form=0,8\n{}main=12\nnew=0\nnew=1\n{}new=0\nnew=2,2,3,4,5,6,7,8,9\n",
         "new=0\n".repeat(31),
-        "call=1,0,0\n".repeat(8),
-        "new=0\n".repeat(6)
+        "keep=0\n".repeat(8),
+        "call=1,0,0\n".repeat(8)
     );
     let text = text.as_bytes();
-    let given = [0, 1, 32, 63, 94, 125, 156, 187, 218, 249];
-    let made = ascending(250, 255);
-    holds(text, u32::MAX, MAIN, &[&given[..], &made].concat());
-    holds(text, u32::MAX, 255, &[255]);
-    no_holder(text, 271, 255);
+    let given = [32, 63, 94, 125, 156, 187, 218, 249];
+    // The last one is the maker's until its return.
+    holds(text, 265, MAIN, &given[..7]);
+    holds(text, 265, 1, &[1, 249]);
+    holds(text, 266, MAIN, &given);
+    holds(text, 266, 1, &[1]);
+    holds(text, 267, MAIN, &given);
+    holds(text, u32::MAX, MAIN, &[251]);
+    holds(text, u32::MAX, 251, &[251]);
+    no_holder(text, 267, 251);
 }

@@ -116,7 +116,7 @@ fn the_printed_lines_agree_on_1000_mills() {
 #[test]
 fn the_paper_s_lines_for_the_clerk() {
     let lines = "verdict=0\nline=0\noutcome=0\nsteps=8\nvalue=0\n\
-                 holder=256,1,2\nholder=1,1\nholder=2,1,2\n";
+                 holder=256\nholder=1,1\nholder=2,1,2\n";
     assert_eq!(printed(CLERK), lines);
 }
 

@@ -95,6 +95,18 @@ fn the_report_agrees_on_1000_mills() {
     assert!(seen.most > 800, "{} numbers at most", seen.most);
 }
 
+#[test]
+fn the_report_agrees_on_600_idle_sheets() {
+    let mut seen = Seen::default();
+    for index in 0..600 {
+        let text = generator::idle(73, index);
+        seen.count(compare(&text, index + 1, &format!("idle sheet {index}")));
+    }
+    assert_eq!(seen.refusals[0], 600);
+    let outcomes = seen.outcomes;
+    assert!(outcomes.iter().all(|count| *count > 0), "{outcomes:?}");
+}
+
 /// The clerk's three sets, as the paper prints them.
 #[test]
 fn the_clerk_in_buffers_of_exactly_the_size() {
@@ -104,11 +116,11 @@ fn the_clerk_in_buffers_of_exactly_the_size() {
     let wanted = ReportResult {
         steps: 8,
         objects: 3,
-        count: 11,
+        count: 9,
         ..report_of(NONE)
     };
     assert_eq!(answer, wanted);
-    let numbers = [256, 2, 1, 2, 1, 1, 1, 2, 2, 1, 2];
+    let numbers = [256, 0, 1, 1, 1, 2, 2, 1, 2];
     is_written(&result, &result_entry, &numbers, "clerk");
     is_left_clean(&work, &work_entry, "clerk");
 }

@@ -1,7 +1,7 @@
 //! Laws that every accepted sheet obeys: how authority grows, and how the
 //! answers to the questions belong together.
 
-use generator::{group, mill, sheet};
+use generator::{group, idle, mill, sheet};
 use second::authority::{authority_of, frame_holders, holders, is_resource};
 use second::machine::{Machine, Outcome};
 use second::sheet::Instruction;
@@ -97,14 +97,18 @@ fn follow(text: &[u8], steps: u32) -> usize {
 
 #[test]
 fn authority_grows_by_creation_call_and_return_only() {
-    let mut count = 0;
-    for index in 0..600 {
+    let (mut count, mut of_idle) = (0, 0);
+    for index in 0..600_u64 {
         let text = sheet(12, index);
         if second::verdict(&text).is_ok() {
             count += follow(&text, 150);
         }
+        if index.is_multiple_of(4) {
+            of_idle += follow(&idle(12, index), 150);
+        }
     }
-    assert!(count > 5_000, "{count} resources were new to a holder");
+    assert!(count > 3_000, "{count} resources were new to a holder");
+    assert!(of_idle > 3_000, "{of_idle} in idle sheets");
 }
 
 /// The members of a group, made or not.
@@ -186,8 +190,9 @@ fn groups(index: u64, objects: u16) -> Vec<Group> {
 #[test]
 fn a_group_gains_by_creation_call_and_return_only() {
     let mut gains = [0; 3];
-    for index in 0..600 {
-        for text in [sheet(15, index), mill(15, index)] {
+    for index in 0..600_u64 {
+        let idle = index.is_multiple_of(6).then(|| idle(15, index));
+        for text in [sheet(15, index), mill(15, index)].into_iter().chain(idle) {
             if let Ok(run) = second::run(&text, 100) {
                 let groups = groups(index, run.objects);
                 follow_groups(&text, 100, &groups, &mut gains);

@@ -1,7 +1,8 @@
 //! The report and the program.
 
 use generator::bounds::Bounds;
-use generator::report::{report, Report, STRICT_SHARE};
+use generator::report::{report, Report, IDLE_SHARE, STRICT_SHARE};
+use generator::usable::{Thing, THINGS};
 use std::process::{Command, Output};
 
 fn program(words: &[&str]) -> Output {
@@ -35,6 +36,26 @@ fn a_run_of_sheets_reaches_everything() {
         assert!(report.late[number] > 0, "no late refusal {number}");
     }
     check_bounds(&report);
+    check_usable(&report);
+}
+
+fn check_usable(report: &Report) {
+    assert_eq!(report.usable.sheets, report.accepted);
+    assert_eq!(report.idle.sheets, report.sheets.div_ceil(IDLE_SHARE));
+    for (place, name) in THINGS.iter().enumerate() {
+        // A field that is set anew takes a run of some length.
+        let rare = place == Thing::StartLost as usize;
+        let accepted = report.usable.counts[place];
+        assert!(
+            rare || accepted * 100 > report.accepted,
+            "{name}: {accepted}"
+        );
+        let idle = report.idle.counts[place];
+        assert!(idle * 20 > report.idle.sheets, "{name}: {idle}");
+    }
+    for (name, usable) in [("accepted", &report.usable), ("idle", &report.idle)] {
+        assert!(report.lines().contains(&usable.lines(name)));
+    }
 }
 
 fn check_bounds(report: &Report) {
@@ -57,9 +78,10 @@ fn check_bounds(report: &Report) {
 
 #[test]
 fn what_is_missing_is_told() {
-    // Refusals, outcomes, the cases of misfit alone and beside others, and
-    // answers to the question for the most steps.
-    assert_eq!(Report::default().missing().len(), 9 + 4 + 24 + 31 + 5);
+    // Refusals, outcomes, the cases of misfit alone and beside others,
+    // answers to the question for the most steps, and things for the
+    // authority question.
+    assert_eq!(Report::default().missing().len(), 9 + 4 + 24 + 31 + 5 + 13);
     let few = program(&["report", "1", "3"]);
     assert_eq!(few.status.code(), Some(1));
     let message = String::from_utf8_lossy(&few.stderr).into_owned();
@@ -76,6 +98,8 @@ fn the_program_writes_sheets_and_reports() {
     }
     let text = program(&["mill", "8", "3"]);
     assert_eq!(text.stdout, generator::mill(8, 3));
+    let text = program(&["idle", "8", "3"]);
+    assert_eq!(text.stdout, generator::idle(8, 3));
     let text = program(&["readable", "8", "3"]);
     assert_eq!(text.stdout, generator::readable(8, 3));
     let text = program(&["strict", "8", "3"]);
@@ -89,13 +113,14 @@ fn the_program_writes_sheets_and_reports() {
 
 #[test]
 fn wrong_command_lines() {
-    let cases: [&[&str]; 11] = [
+    let cases: [&[&str]; 12] = [
         &[],
         &["1"],
         &["1", "x"],
         &["-1", "2"],
         &["report", "1"],
         &["mill", "1", "x"],
+        &["idle", "1", "x"],
         &["readable", "1", "x"],
         &["strict", "1", "x"],
         &["wide", "1", "x"],

@@ -12,8 +12,8 @@ fn held(text: &[u8], budget: u32, holder: u32) -> Vec<u16> {
 fn maker() -> Vec<u8> {
     sheet(
         "types=4 / type=0,0 / type=1,0 / type=0,1 / def=1,0,0 / type=1,1 / def=1,0,0 / forms=4 / \
-         form=0,0 / form=1,0 / form=2,0 / body=2 / new=1 / copy=1 / form=3,1 / keep=2 / body=1 / \
-         call=2,1,1 / main=5 / new=0 / new=2 / new=3,1 / call=1,1,0 / call=2,1,0",
+         form=0,0 / form=1,0 / form=2,0 / body=3 / new=1 / copy=2 / copy=1 / form=3,1 / keep=2 / \
+         body=1 / call=2,1,1 / main=5 / new=0 / new=2 / new=3,1 / call=1,1,0 / call=2,1,0",
     )
 }
 
@@ -26,22 +26,23 @@ fn a_pure_receivers_frame_belongs_to_the_holder_beneath() {
     assert_eq!(held(&text, 5, 256), [2, 3]);
     assert_eq!(held(&text, 5, 2), [2]);
     assert_eq!(held(&text, 5, 3), [3]);
-    // The maker's frame is gone after its return.
-    assert_eq!(held(&text, 7, 256), [2]);
+    // The maker's last line names its argument only.
+    assert_eq!(held(&text, 6, 256), [2]);
+    assert_eq!(held(&text, 8, 256), [2]);
     // Made by the maker in the clerk's name.
-    assert_eq!(held(&text, 10, 2), [2, 4]);
-    assert_eq!(held(&text, 10, 256), [2]);
+    assert_eq!(held(&text, 11, 2), [2, 4]);
+    assert_eq!(held(&text, 11, 256), []);
     assert_eq!(held(&text, 12, 2), [2]);
-    assert_eq!(held(&text, 13, 4), [4]);
-    assert_eq!(pair(authority(&text, 10, 1)), (11, 0));
+    assert_eq!(held(&text, 15, 4), [4]);
+    assert_eq!(pair(authority(&text, 11, 1)), (11, 0));
 }
 
 #[test]
 fn the_printed_answer_has_each_resource() {
     assert_eq!(
         second::print(&maker()),
-        "verdict=0\nline=0\noutcome=0\nsteps=13\nvalue=0\n\
-         holder=256,2\nholder=2,2\nholder=3,3\nholder=4,4\n"
+        "verdict=0\nline=0\noutcome=0\nsteps=15\nvalue=0\n\
+         holder=256\nholder=2,2\nholder=3,3\nholder=4,4\n"
     );
 }
 
@@ -58,7 +59,7 @@ fn main_alone_is_printed_bare() {
 fn an_unfinished_run_is_printed_with_its_frames() {
     assert_eq!(
         second::print(LOOP),
-        "verdict=0\nline=0\noutcome=3\nsteps=65\nvalue=65535\nholder=256,1\nholder=1,1\n"
+        "verdict=0\nline=0\noutcome=3\nsteps=65\nvalue=65535\nholder=256\nholder=1,1\n"
     );
 }
 
@@ -69,17 +70,19 @@ fn kept_values_fields_and_slots() {
          keep=0 / init=0 / body=1 / put=1,1 / main=6 / new=0 / new=0 / new=1,0 / call=2,2,1 / \
          new=0 / call=2,2,4",
     );
-    // The kept value, which the field starts as.
+    // The kept value, as which the field starts; no body names its slot.
     assert_eq!(held(&text, 3, 2), [0, 2]);
     // The argument, then the field set to it.
     assert_eq!(held(&text, 4, 2), [0, 1, 2]);
-    assert_eq!(held(&text, 6, 2), [0, 1, 2]);
+    assert_eq!(held(&text, 5, 2), [1, 2]);
+    assert_eq!(held(&text, 6, 2), [1, 2]);
     // The new argument beside the field.
-    assert_eq!(held(&text, 8, 2), [0, 1, 2, 3]);
-    // The field is set anew: object 1 is lost with it, the kept one is not.
-    assert_eq!(held(&text, 9, 2), [0, 2, 3]);
-    assert_eq!(held(&text, 10, 2), [0, 2, 3]);
-    assert_eq!(held(&text, 10, 256), [0, 1, 2, 3]);
+    assert_eq!(held(&text, 8, 2), [1, 2, 3]);
+    // The field is set anew: object 1 is lost with it.
+    assert_eq!(held(&text, 9, 2), [2, 3]);
+    assert_eq!(held(&text, 10, 2), [2, 3]);
+    assert_eq!(held(&text, 3, 256), [1, 2]);
+    assert_eq!(held(&text, 10, 256), [3]);
 }
 
 #[test]
@@ -93,9 +96,9 @@ fn a_full_store_has_a_last_holder() {
     );
     assert_eq!(held(text.as_bytes(), 10_000, 255), [255]);
     assert_eq!(pair(authority(text.as_bytes(), 271, 255)), (11, 0));
-    // Main holds what it made and what each call gave back.
-    let main = [
-        0, 1, 32, 63, 94, 125, 156, 187, 218, 249, 250, 251, 252, 253, 254, 255,
-    ];
-    assert_eq!(held(text.as_bytes(), 10_000, 256), main);
+    // Main names both until its last call, and ends with what it made last.
+    assert_eq!(held(text.as_bytes(), 233, 256), [0, 1]);
+    assert_eq!(held(text.as_bytes(), 234, 256), []);
+    assert_eq!(held(text.as_bytes(), 271, 256), []);
+    assert_eq!(held(text.as_bytes(), 10_000, 256), [255]);
 }

@@ -1,5 +1,7 @@
 //! What the tests share: the example sheets and small changes to them.
 
+use second::authority::{authority_of, held_before};
+use second::machine::Machine;
 use second::{Lack, Outcome, Refusal, RunAnswer};
 
 /// P, the clerk before a scale.
@@ -58,4 +60,32 @@ pub fn run(text: &[u8], budget: u32) -> (Outcome, u32, u16, u16) {
         objects,
     } = second::run(text, budget).expect("an accepted sheet");
     (outcome, steps, value, objects)
+}
+
+/// Rows 0, a resource without members, and 1, a resource with method 1; form
+/// 0 of row 0, and then these.
+pub fn caller(forms: &str, main: &str) -> Vec<u8> {
+    let count = 1 + forms.matches("form=").count();
+    let text = format!(
+        "types=2 / type=1,0 / type=1,1 / def=1,0,0 / forms={count} / form=0,0 / {forms} / {main}"
+    );
+    sheet(&text)
+}
+
+/// Budget and holder, what it holds then, and what it held when every filled
+/// slot and every kept value counted.
+pub type Held<'a> = (u32, u32, &'a [u16], &'a [u16]);
+
+/// Asks for the sets of an accepted sheet.
+pub fn check_held(text: &[u8], cases: &[Held]) {
+    assert_eq!(verdict(text), (0, 0));
+    let sheet = second::read(text).expect("an accepted sheet");
+    for (budget, holder, now, before) in cases {
+        let mut machine = Machine::start(&sheet);
+        machine.run(*budget);
+        let held = authority_of(&machine, *holder);
+        assert_eq!(held.as_deref(), Some(*now), "{budget}, {holder}");
+        let held = held_before(&machine, *holder);
+        assert_eq!(held.as_deref(), Some(*before), "{budget}, {holder}");
+    }
 }

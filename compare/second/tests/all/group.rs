@@ -12,13 +12,15 @@ fn refused(text: &[u8], budget: u32, holders: &[u32]) -> (u32, u32) {
 }
 
 /// Two makers that keep two items each, one of them in common, and put what
-/// they make into a field. Objects: 0 pure, 1 to 3 the items, 4 and 5 the
-/// makers, 6 and 7 made by them.
+/// they make into a field. Their first item is the field's start, their
+/// second is named by the body. Objects: 0 pure, 1 to 3 the items, 4 and 5
+/// the makers, 6 and 7 made by them.
 fn makers() -> Vec<u8> {
     sheet(
         "types=3 / type=0,0 / type=1,0 / type=1,2 / var=1,1 / def=2,1,1 / forms=3 / form=0,0 / \
-         form=1,0 / form=2,2 / keep=1 / keep=1 / init=0 / body=3 / new=1 / put=1,4 / copy=1 / \
-         main=8 / new=0 / new=1 / new=1 / new=1 / new=2,2,3 / new=2,1,2 / call=4,2,1 / call=5,2,1",
+         form=1,0 / form=2,2 / keep=1 / keep=1 / init=0 / body=4 / copy=3 / new=1 / put=1,5 / \
+         copy=1 / main=8 / new=0 / new=1 / new=1 / new=1 / new=2,2,3 / new=2,1,2 / call=4,2,1 / \
+         call=5,2,1",
     )
 }
 
@@ -30,7 +32,7 @@ fn shelf() -> Vec<u8> {
 
 #[test]
 fn an_empty_list_answers_the_empty_set() {
-    for (text, budget) in [(CLERK, 0), (CLERK, 8), (LOOP, 66), (&makers(), 16)] {
+    for (text, budget) in [(CLERK, 0), (CLERK, 8), (LOOP, 66), (&makers(), 18)] {
         assert_eq!(joined(text, budget, &[]), []);
     }
     // The sheet is judged all the same.
@@ -46,18 +48,21 @@ fn sets_that_overlap_are_joined_ascending() {
     // The first maker's argument counts while its frame is there.
     assert_eq!(joined(&text, 6, &[4]), [2, 3, 4]);
     assert_eq!(joined(&text, 7, &[4]), [1, 2, 3, 4]);
-    assert_eq!(joined(&text, 16, &[4]), [2, 3, 4, 6]);
-    assert_eq!(joined(&text, 16, &[5]), [1, 2, 5, 7]);
-    assert_eq!(joined(&text, 16, &[4, 5]), [1, 2, 3, 4, 5, 6, 7]);
-    assert_eq!(joined(&text, 16, &[5, 7]), [1, 2, 5, 7]);
-    assert_eq!(joined(&text, 16, &[7, 3]), [3, 7]);
-    assert_eq!(joined(&text, 16, &[256, 6]), [1, 2, 3, 4, 5, 6]);
+    // Main names its first item and the makers that it still calls.
+    assert_eq!(joined(&text, 6, &[256, 4]), [1, 2, 3, 4, 5]);
+    assert_eq!(joined(&text, 12, &[256, 4]), [1, 3, 4, 5, 6]);
+    assert_eq!(joined(&text, 18, &[4]), [3, 4, 6]);
+    assert_eq!(joined(&text, 18, &[5]), [2, 5, 7]);
+    assert_eq!(joined(&text, 18, &[4, 5]), [2, 3, 4, 5, 6, 7]);
+    assert_eq!(joined(&text, 18, &[5, 7]), [2, 5, 7]);
+    assert_eq!(joined(&text, 18, &[7, 3]), [3, 7]);
+    assert_eq!(joined(&text, 18, &[256, 6]), [1, 6]);
 }
 
 #[test]
 fn a_group_of_one_has_its_members_authority() {
     for text in [CLERK, LOOP, &makers()] {
-        for budget in 0..=16 {
+        for budget in 0..=18 {
             for holder in (0..=258).chain([65_535, 65_536 + 256, u32::MAX]) {
                 let alone = group(text, budget, &[holder]);
                 assert_eq!(alone, authority(text, budget, holder), "{budget}, {holder}");
@@ -69,7 +74,7 @@ fn a_group_of_one_has_its_members_authority() {
 #[test]
 fn the_order_has_no_influence() {
     let text = makers();
-    for budget in [6, 9, 13, 16] {
+    for budget in [6, 10, 15, 18] {
         let mut list = [256, 5, 1, 4];
         let expected = joined(&text, budget, &list);
         for _ in 0..list.len() {
@@ -85,20 +90,20 @@ fn the_order_has_no_influence() {
 #[test]
 fn a_holder_named_twice_counts_once() {
     let text = makers();
-    assert_eq!(joined(&text, 16, &[4, 4]), [2, 3, 4, 6]);
-    assert_eq!(joined(&text, 16, &[4, 7, 4, 7, 7]), [2, 3, 4, 6, 7]);
-    assert_eq!(joined(&text, 16, &[5; 16]), [1, 2, 5, 7]);
+    assert_eq!(joined(&text, 18, &[4, 4]), [3, 4, 6]);
+    assert_eq!(joined(&text, 18, &[4, 7, 4, 7, 7]), [3, 4, 6, 7]);
+    assert_eq!(joined(&text, 18, &[5; 16]), [2, 5, 7]);
 }
 
 #[test]
 fn sixteen_are_listed_at_most_repeats_included() {
     assert_eq!(GROUP_LIMIT, 16);
     let text = makers();
-    assert_eq!(joined(&text, 16, &[256; 16]), [1, 2, 3, 4, 5]);
-    assert_eq!(refused(&text, 16, &[256; 17]), (11, 0));
+    assert_eq!(joined(&text, 18, &[256; 16]), [1]);
+    assert_eq!(refused(&text, 18, &[256; 17]), (11, 0));
     let turns: Vec<u32> = [4, 5, 7].into_iter().cycle().take(17).collect();
-    assert_eq!(joined(&text, 16, &turns[..16]), [1, 2, 3, 4, 5, 6, 7]);
-    assert_eq!(refused(&text, 16, &turns), (11, 0));
+    assert_eq!(joined(&text, 18, &turns[..16]), [2, 3, 4, 5, 6, 7]);
+    assert_eq!(refused(&text, 18, &turns), (11, 0));
     // Holders that are all different.
     let all: Vec<u32> = (0..20).collect();
     assert_eq!(joined(&shelf(), 20, &all[4..]), Vec::from_iter(4..20));
@@ -110,13 +115,13 @@ fn sixteen_are_listed_at_most_repeats_included() {
 fn one_member_that_is_no_holder_is_enough() {
     let text = makers();
     let good = [4, 256, 5];
-    assert_eq!(joined(&text, 16, &good), [1, 2, 3, 4, 5, 6, 7]);
+    assert_eq!(joined(&text, 18, &good), [1, 2, 3, 4, 5, 6, 7]);
     // A pure one, missing ones, and numbers over 256.
     for stranger in [0, 8, 255, 257, 65_535, 65_536 + 4, 65_536 + 256, u32::MAX] {
         for place in 0..=good.len() {
             let mut list = good.to_vec();
             list.insert(place, stranger);
-            assert_eq!(refused(&text, 16, &list), (11, 0), "{list:?}");
+            assert_eq!(refused(&text, 18, &list), (11, 0), "{list:?}");
         }
     }
 }
@@ -147,7 +152,7 @@ fn the_run_decides_who_is_there() {
     assert_eq!(refused(CLERK, 2, &[256, 1, 2]), (11, 0));
     assert_eq!(joined(CLERK, 3, &[256, 1, 2]), [1, 2]);
     let text = makers();
-    for (made, object) in [(2, 1), (5, 4), (6, 5), (8, 6), (13, 7)] {
+    for (made, object) in [(2, 1), (5, 4), (6, 5), (9, 6), (15, 7)] {
         assert_eq!(refused(&text, made - 1, &[256, object]), (11, 0));
         assert!(joined(&text, made, &[256, object]).contains(&(object as u16)));
     }

@@ -111,12 +111,16 @@ fn a_row_that_is_not_there() {
 #[test]
 fn the_authority_of_each_holder_of_the_clerk() {
     let held = |budget, holder| authority(CLERK, budget, holder).expect("a holder");
-    assert_eq!(held(8, 256), [1, 2]);
+    // Its value is a pure object.
+    assert_eq!(held(8, 256), []);
     assert_eq!(held(8, 1), [1]);
     assert_eq!(held(8, 2), [1, 2]);
     assert_eq!(held(0, 256), []);
     assert_eq!(held(1, 256), []);
+    // The scale until the clerk is made, the clerk until it is called.
     assert_eq!(held(2, 256), [1]);
+    assert_eq!(held(3, 256), [2]);
+    assert_eq!(held(4, 256), []);
     assert_eq!(held(5, 1), [1]);
     for holder in [3, 255, 257, 65_536 + 256, u32::MAX] {
         assert_eq!(pair(authority(CLERK, 8, holder)), (11, 0));
@@ -128,6 +132,6 @@ fn the_clerk_printed() {
     assert_eq!(
         second::print(CLERK),
         "verdict=0\nline=0\noutcome=0\nsteps=8\nvalue=0\n\
-         holder=256,1,2\nholder=1,1\nholder=2,1,2\n"
+         holder=256\nholder=1,1\nholder=2,1,2\n"
     );
 }

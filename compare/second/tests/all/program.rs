@@ -38,7 +38,7 @@ fn questions_and_answers() {
         (&["fit", "3", "0"], "verdict=7\nline=0\n"),
         (&["run", "8"], "run=0,8,0,3\n"),
         (&["run", "7"], "run=1,7,65535,3\n"),
-        (&["authority", "8", "256"], "holder=256,1,2\n"),
+        (&["authority", "8", "256"], "holder=256\n"),
         (&["authority", "2", "2"], "verdict=11\nline=0\n"),
     ];
     for (words, expected) in cases {
@@ -62,7 +62,7 @@ fn groups_of_any_length() {
     for (words, expected) in cases {
         assert_eq!(program(words, CLERK), (expected.into(), 0), "{words:?}");
     }
-    let words: Vec<&str> = ["group", "8"].into_iter().chain(["256"; 17]).collect();
+    let words: Vec<&str> = ["group", "8"].into_iter().chain(["2"; 17]).collect();
     assert_eq!(program(&words[..18], CLERK), ("group=1,2\n".into(), 0));
     assert_eq!(program(&words, CLERK), ("verdict=11\nline=0\n".into(), 0));
 }

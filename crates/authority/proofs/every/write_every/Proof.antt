@@ -29,7 +29,7 @@ add-b : tie.Need-add-b Inv-loop μ-loop
 add-b c =
     let t = c .before .before .before .before .before .before .before in
     let a = t .before .before .before .before .before .before .before .before .before .before .before in
-    omega (arith, t .loop-test .taken, objects-few (a .args .work .now) (a .args .top) (a .args .tally) (a .pre .0))
+    omega (arith, t .loop-test .taken, objects-few (a .args .work .now) (a .args .top) (a .args .tally) (a .pre .0 .running))
 
 loop-less : tie.Need-loop-less Inv-loop μ-loop
 loop-less c =

@@ -6,7 +6,7 @@ use Rattle.authority.proofs.every.write_object.Statement.{statement}
 use Rattle.authority.proofs.every.write_object.Tie as tie
 
 is-resource-requires : tie.Need-is-resource-requires
-is-resource-requires c κs = run-stored (c .before .before .before .args .work .now) (c .before .before .before .args .top) (c .before .before .before .args .tally) (c .before .before .before .pre .0)
+is-resource-requires c κs = let a = c .before .before .before in run-stored (a .args .work .now) (a .args .top) (a .args .tally) (a .pre .0 .running)
 
 returns : tie.Need-returns
 returns c =
