@@ -140,7 +140,7 @@ codeNotesAt = 27728
 abbrev pub marksEnd : ℕ
 marksEnd = 27772
 
--- 64 forms of 44 notes: the slots that its bodies name
+-- 44 notes for each of 64 forms: the slots that its bodies name
 abbrev pub formNotesAddress : ℕ → ℕ
 formNotesAddress f = 27772 + 44 * min f 63
 

@@ -26,7 +26,7 @@ fn printed(sheet: &[u8]) -> String {
 
 #[test]
 fn the_example_tells_what_every_holder_holds() {
-    let lines = "done after 8 steps: 0\nmain holds [1, 2]\nobject 1 holds [1]\n\
+    let lines = "done after 8 steps: 0\nmain holds []\nobject 1 holds [1]\n\
                  object 2 holds [1, 2]\n";
     let clerk = include_bytes!("../../../examples/clerk.sheet");
     assert_eq!(printed(clerk), lines);
