@@ -31,7 +31,7 @@ use Rattle.lists.proofs.ContainsLaws.{in-contains}
 use Rattle.authority_rules.proofs.HoldingLaws.{Reaches, by-top, by-slot, by-own, resource-made, is-holds}
 use Rattle.authority_rules.proofs.CountedLaws.{named-kept}
 use Rattle.authority_rules.proofs.StableLaws.{below-frames, slot-made, resource-same}
-use Rattle.authority_rules.proofs.GainWorks.{Gains, GainsNext, top-named, moved-slots}
+use Rattle.authority_rules.proofs.GainWorks.{Gains, GainsNext, top-named, Moved, filler, own-now, moved}
 
 -- the values of some slots that are filled are those of slots among them
 in-values : {s : Sheet} {b : ℕ} {rows ss bs : List ℕ} (slots : List ℕ) → Pairwise (SlotFits s rows) ss bs → In b (slotValues slots ss)
@@ -66,7 +66,7 @@ reaches-made s σ c {h} {b} (by-own r i) = own-made s (σ .objects) (c .store) h
 module _ (s : Sheet) (t : Typed s) (σ : State) (c : Sound s σ) where
   new-gains : (is : List Instr) (f : ℕ) (ss : List ℕ) → σ .top .code ≡ new f ss ∷ is → f < length (s .forms) → Pairwise (SlotFits s (c .rows)) ss ((formAt s f) .keeps)
       → Gains s σ (creates (length (σ .objects)) (slotValues (σ .top .slots) ss)) (withNew s σ is f (slotValues (σ .top .slots) ss))
-  new-gains is f ss code form fit h b p new-is = go (moved-slots s σ c os g (new f ss) is code number (p .reaches))
+  new-gains is f ss code form fit h b p new-is = go (moved s σ c os g (new f ss) is code number (p .reaches))
     where
       kept : List ℕ
       kept = slotValues (σ .top .slots) ss
@@ -123,10 +123,10 @@ module _ (s : Sheet) (t : Typed s) (σ : State) (c : Sound s σ) where
           fresh e (subst (λ (y : Object). In b (ownValues usable s number y)) (getD-append-seam (σ .objects) x [] noObject)
           (subst (λ (y : ℕ). In b (ownValues usable s y (objectAt os y))) e i))
 
-      go : Reaches usable s σ h b ⊎ (((h ≡ topHolder s σ) × (b ≡ number)) ⊎ (T (isResource s os h) × In b (ownValues usable s h (objectAt os h)))) → Gain s σ h b (creates number kept)
-      go (inl q) = old q
-      go (inr (inl e)) = maker (e .0) (e .1)
-      go (inr (inr (r, i))) = own r i (decLe (suc h) number)
+      go : Moved s σ os number h b → Gain s σ h b (creates number kept)
+      go (Moved.before q) = old q
+      go (filler e k) = maker e k
+      go (own-now r i) = own r i (decLe (suc h) number)
 
   pub new-gains-next : (is : List Instr) (f : ℕ) (ss : List ℕ) → σ .top .code ≡ new f ss ∷ is → f < length (s .forms) → Pairwise (SlotFits s (c .rows)) ss ((formAt s f) .keeps)
       → GainsNext s σ (newStep s σ is f (slotValues (σ .top .slots) ss))

@@ -60,23 +60,26 @@ module _ (s : Sheet) (σ : State) where
   pub moved-holder : (c : Sound s σ) (os : List Object) → Grows (σ .objects) os → holderOf s os (frames σ) ≡ topHolder s σ
   moved-holder c os g = holder-same s (σ .objects) os g (all-frames s σ c)
 
--- the frames of a state that moved on, the next instruction taken and its slot filled with v: what h reaches by them it reached
--- before, or h is the top frame's holder and gets v
-pub moved-slots : (s : Sheet) (σ : State) (c : Sound s σ) (os : List Object) → Grows (σ .objects) os → (i : Instr) (is : List Instr) → σ .top .code ≡ i ∷ is
-    → (v : ℕ) {h b : ℕ} → Reaches usable s (movedOn os σ is v) h b
-    → Reaches usable s σ h b ⊎ (((h ≡ topHolder s σ) × (b ≡ v)) ⊎ (T (isResource s os h) × In b (ownValues usable s h (objectAt os h))))
+-- how h reaches b in a state that moved on from σ, among these objects: as it did before; as the value v that filled the slot, if the
+-- top frame is h's; or as its own now
+pub data Moved (s : Sheet) (σ : State) (os : List Object) (v h b : ℕ) : Type 0 where
+  before : Reaches usable s σ h b → Moved s σ os v h b
+  filler : h ≡ topHolder s σ → b ≡ v → Moved s σ os v h b
+  own-now : T (isResource s os h) → In b (ownValues usable s h (objectAt os h)) → Moved s σ os v h b
+
+pub moved : (s : Sheet) (σ : State) (c : Sound s σ) (os : List Object) → Grows (σ .objects) os → (i : Instr) (is : List Instr) → σ .top .code ≡ i ∷ is
+    → (v : ℕ) {h b : ℕ} → Reaches usable s (movedOn os σ is v) h b → Moved s σ os v h b
 unfolding holderOf
-moved-slots s σ c os g i is e v (by-own r j) = inr (inr (r, j))
-moved-slots s σ c os g i is e v (by-slot q) = inl (by-slot (slot-same s (σ .objects) os g (below-frames (c .below)) q))
-moved-slots s σ c os g i is e v {h} {b} (by-top k j) = go (filled-top (σ .top) i is e v j)
+moved s σ c os g i is e v (by-own r j) = own-now r j
+moved s σ c os g i is e v (by-slot q) = before (by-slot (slot-same s (σ .objects) os g (below-frames (c .below)) q))
+moved s σ c os g i is e v {h} {b} (by-top k j) = go (filled-top (σ .top) i is e v j)
   where
     same : topHolder s σ ≡ h
     same = sym (moved-holder s σ c os g) ∙ k
 
-    go : In b (topSlots (σ .top)) ⊎ (b ≡ v)
-        → Reaches usable s σ h b ⊎ (((h ≡ topHolder s σ) × (b ≡ v)) ⊎ (T (isResource s os h) × In b (ownValues usable s h (objectAt os h))))
-    go (inl x) = inl (by-top same x)
-    go (inr x) = inr (inl (sym same, x))
+    go : In b (topSlots (σ .top)) ⊎ (b ≡ v) → Moved s σ os v h b
+    go (inl x) = before (by-top same x)
+    go (inr x) = filler (sym same) x
 
 module _ (s : Sheet) (t : Typed s) (σ : State) (c : Sound s σ) (i : Instr) (is : List Instr) (code : σ .top .code ≡ i ∷ is) where
   -- the top frame gets a value that its holder reaches, and objects get no value of their own that they did not reach: no gain
@@ -84,16 +87,15 @@ module _ (s : Sheet) (t : Typed s) (σ : State) (c : Sound s σ) (i : Instr) (is
       → Reaches usable s σ (topHolder s σ) v
       → ((h b : ℕ) → T (isResource s (σ .objects) h) → In b (ownValues usable s h (objectAt os h)) → Reaches usable s σ h b)
       → Gains s σ works (movedOn os σ is v)
-  works-gains os g l v top own h b p new = absurd (new (record { resource = before b (p .resource); reaches = go (moved-slots s σ c os g i is code v (p .reaches)) }))
+  works-gains os g l v top own h b p new = absurd (new (record { resource = was b (p .resource); reaches = go (moved s σ c os g i is code v (p .reaches)) }))
     where
-      before : (o : ℕ) → T (isResource s os o) → T (isResource s (σ .objects) o)
-      before o r = subst T (resource-same s (σ .objects) os g o (omega (arith, resource-made s os o r))) r
+      was : (o : ℕ) → T (isResource s os o) → T (isResource s (σ .objects) o)
+      was o r = subst T (resource-same s (σ .objects) os g o (omega (arith, resource-made s os o r))) r
 
-      go : Reaches usable s σ h b ⊎ (((h ≡ topHolder s σ) × (b ≡ v)) ⊎ (T (isResource s os h) × In b (ownValues usable s h (objectAt os h)))) → Reaches usable s σ h b
-      go (inl q) = q
-      go (inr (inr (r, j))) = own h b (before h r) j
-      go (inr (inl e)) =
-          subst (λ (x : ℕ). Reaches usable s σ x b) (sym (e .0)) (subst (λ (x : ℕ). Reaches usable s σ (topHolder s σ) x) (sym (e .1)) top)
+      go : Moved s σ os v h b → Reaches usable s σ h b
+      go (before q) = q
+      go (own-now r j) = own h b (was h r) j
+      go (filler e k) = subst (λ (x : ℕ). Reaches usable s σ x b) (sym e) (subst (λ (x : ℕ). Reaches usable s σ (topHolder s σ) x) (sym k) top)
 
   -- objects as they are
   pub same-gains : (v : ℕ) → Reaches usable s σ (topHolder s σ) v → Gains s σ works (movedOn (σ .objects) σ is v)

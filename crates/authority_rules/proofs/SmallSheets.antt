@@ -44,7 +44,7 @@ errand = clerkSheet "def=1,0,0" clerk ("main=5" ∷ "new=0" ∷ "new=1" ∷ "new
 abbrev pub farewell : List String
 farewell = clerkSheet "def=1,0,0" clerk ("main=4" ∷ "new=0" ∷ "new=2" ∷ "new=1" ∷ "call=1,1,0" ∷ [])
 
--- clerk 2 keeps resource 1, and its body does not name it
+-- clerk 2 keeps resource 1, and its body does not name it (examples/idle.sheet)
 abbrev pub idle : List String
 idle = clerkSheet "def=1,0,0" ("form=2,1" ∷ "keep=1" ∷ "body=1" ∷ "copy=1" ∷ []) ("main=4" ∷ "new=0" ∷ "new=1" ∷ "new=2,1" ∷ "call=2,1,0" ∷ [])
 

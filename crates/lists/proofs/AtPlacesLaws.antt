@@ -76,11 +76,15 @@ places-snoc test (y ∷ ys) x =
 
 -- TESTS
 
+-- an element at a place that passes another test, too
+passes-too : {test : ℕ → Bool} (test′ : ℕ → Bool) (xs : List ℕ) {x : ℕ} (p : AtPlace test xs x) → T (test′ (p .place)) → In x (atPlaces test′ xs)
+passes-too test′ xs p t = at-place test′ xs (record { place = p .place; inside = p .inside; passes = t; is = p .is })
+
 -- a test that passes wherever another does, among the places that there are, gives no less
 pub places-more : (test test′ : ℕ → Bool) (xs : List ℕ) → ((i : ℕ) → i < length xs → T (test i) → T (test′ i)) → {x : ℕ} → In x (atPlaces test xs) → In x (atPlaces test′ xs)
 places-more test test′ xs more i =
     let p = places-at test xs i in
-    at-place test′ xs (record { place = p .place; inside = p .inside; passes = more (p .place) (p .inside) (p .passes); is = p .is })
+    passes-too test′ xs p (more (p .place) (p .inside) (p .passes))
 
 -- tests that agree at the places that there are
 pub places-same : (test test′ : ℕ → Bool) (xs : List ℕ) → ((i : ℕ) → i < length xs → test i ≡ test′ i) → atPlaces test xs ≡ atPlaces test′ xs
@@ -113,12 +117,8 @@ places-or p q xs b = T-ext (contains both b) (contains (atPlaces p xs) b || cont
     to t = let f = places-at (λ i. p i || q i) xs (contains-in both b t) in go f (or-cases (p (f .place)) (q (f .place)) (f .passes))
       where
         go : (f : AtPlace (λ i. p i || q i) xs b) → T (p (f .place)) ⊎ T (q (f .place)) → T (contains (atPlaces p xs) b || contains (atPlaces q xs) b)
-        go f (inl u) =
-            or-left (contains (atPlaces p xs) b) (contains (atPlaces q xs) b)
-            (in-contains (atPlaces p xs) b (at-place p xs (record { place = f .place; inside = f .inside; passes = u; is = f .is })))
-        go f (inr u) =
-            or-right (contains (atPlaces p xs) b) (contains (atPlaces q xs) b)
-            (in-contains (atPlaces q xs) b (at-place q xs (record { place = f .place; inside = f .inside; passes = u; is = f .is })))
+        go f (inl u) = or-left (contains (atPlaces p xs) b) (contains (atPlaces q xs) b) (in-contains (atPlaces p xs) b (passes-too p xs f u))
+        go f (inr u) = or-right (contains (atPlaces p xs) b) (contains (atPlaces q xs) b) (in-contains (atPlaces q xs) b (passes-too q xs f u))
 
     from : T (contains (atPlaces p xs) b || contains (atPlaces q xs) b) → T (contains both b)
     from t = go (or-cases (contains (atPlaces p xs) b) (contains (atPlaces q xs) b) t)

@@ -136,8 +136,8 @@ fn a_sheet_that_comes_in_pieces_is_read_whole() {
 }
 
 /// Each example has its lines stored beside it: one sheet for each outcome,
-/// one for each refusal from 3 to 10, and for the question for the most steps
-/// one that is answered and one that is not.
+/// one for each refusal from 3 to 10, for the question for the most steps one
+/// that is answered and one that is not, and others.
 #[test]
 fn every_example_prints_its_stored_lines() {
     let folder = Path::new(env!("CARGO_MANIFEST_DIR")).join("../../examples");
@@ -152,8 +152,8 @@ fn every_example_prints_its_stored_lines() {
             seen.compare(&text, &name);
         }
     }
-    assert_eq!(seen.outcomes, [4, 1, 1, 1]);
-    assert_eq!(seen.verdicts, [7, 0, 0, 1, 1, 1, 1, 1, 1, 1, 1, 0]);
+    assert_eq!(seen.outcomes, [5, 1, 1, 1]);
+    assert_eq!(seen.verdicts, [8, 0, 0, 1, 1, 1, 1, 1, 1, 1, 1, 0]);
 }
 
 #[test]
