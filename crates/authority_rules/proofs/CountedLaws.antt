@@ -90,6 +90,10 @@ module _ (f : Frame) (i : Instr) (is : List Instr) (e : f .code ≡ i ∷ is) wh
       places-more (codeNames is) (λ u. codeNames (f .code) u || isLast f u) (f .slots)
       (λ u l t. or-left (codeNames (f .code) u) (isLast f u) (left-names u t)) j
 
+-- of a frame that waited, the last slot is none of those filled before the return
+pub waiting-last : (f : Frame) (v u : ℕ) → u < length (f .slots) → T (isLast (filled f v) u) → ⊥
+waiting-last f v u l t = omega (arith, l, eqb→eq (suc u) (length (f .slots ++ (v ∷ [])) + length (f .code)) t, length-append (f .slots) (v ∷ []))
+
 -- a return fills the slot of a frame that waited: what counts then counted before, or fills the slot
 pub returned-top : (f : Frame) (v : ℕ) {b : ℕ} → In b (topSlots (filled f v)) → In b (waitingSlots f) ⊎ (b ≡ v)
 returned-top f v j =
@@ -98,8 +102,7 @@ returned-top f v j =
   where
     more : (u : ℕ) → u < length (f .slots) → T (codeNames (f .code) u) ⊎ T (isLast (filled f v) u) → T (codeNames (f .code) u)
     more u l (inl t) = t
-    more u l (inr t) =
-        absurd (omega (arith, l, eqb→eq (suc u) (length (f .slots ++ (v ∷ [])) + length (f .code)) t, length-append (f .slots) (v ∷ [])))
+    more u l (inr t) = absurd (waiting-last f v u l t)
 
 -- with no instruction left, the last slot counts
 pub last-top : (f : Frame) → f .code ≡ [] → 0 < length (f .slots) → In (lastOf (f .slots)) (topSlots f)
