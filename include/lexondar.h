@@ -64,8 +64,10 @@ enum lexondar_refusal {
                                       line 0 */
     LEXONDAR_CIRCULAR_CALL = 12,   /* after typing: a body calls its method's own
                                       name or a higher one */
-    LEXONDAR_BEYOND_COUNT = 13     /* after that: the most steps are over
+    LEXONDAR_BEYOND_COUNT = 13,    /* after that: the most steps are over
                                       4,294,967,295; line 0 */
+    LEXONDAR_WRONG_DEVICE = 14     /* with 8 to 10, on its line: a device's form
+                                      keeps a value or is pure */
 };
 
 /*
@@ -120,7 +122,7 @@ struct lexondar_fit_result {
 struct lexondar_fit_result lexondar_fit(const uint8_t *text, size_t text_len, size_t a, size_t b,
                                         uint16_t *work, size_t work_len);
 
-/* The verdict: refusal 0 is accepted. Refusals 1 to 10. */
+/* The verdict: refusal 0 is accepted. Refusals 1 to 10, and 14. */
 struct lexondar_verdict_result {
     uint32_t refusal;
     uint32_t line;
@@ -133,8 +135,9 @@ struct lexondar_verdict_result lexondar_verdict(const uint8_t *text, size_t text
 
 /*
  * The run of an accepted sheet for at most budget steps: its outcome, the
- * steps taken, main's last slot if it is done, and the number of objects.
- * Refusals 1 to 10.
+ * steps taken, main's last slot if it is done, and the number of objects, the
+ * devices among them. Devices are objects 0 to 7 at the most, in the sheet's
+ * order, and there at the start. Refusals 1 to 10, and 14.
  */
 struct lexondar_run_result {
     uint32_t refusal;
@@ -157,7 +160,7 @@ struct lexondar_run_result lexondar_run(const uint8_t *text, size_t text_len, ui
  * those of its kept values that some body of its form names, and, in its
  * frames, the slots that an instruction not yet taken names and a body's last
  * slot until it is returned. Main has only frames, and keeps its own last
- * slot. Refusals 1 to 11.
+ * slot. Refusals 1 to 11, and 14.
  */
 struct lexondar_authority_result {
     uint32_t refusal;
@@ -177,7 +180,7 @@ struct lexondar_authority_result lexondar_authority(const uint8_t *text, size_t 
  * them holds, each number once, ascending, as for one holder. The list is only
  * read; its order has no influence, and a holder listed twice counts once. Of
  * an empty list, count is 0. A list of over 16 numbers, or one with a number
- * that is no holder, is refusal 11, after the run. Refusals 1 to 11.
+ * that is no holder, is refusal 11, after the run. Refusals 1 to 11, and 14.
  */
 struct lexondar_authority_result lexondar_group(const uint8_t *text, size_t text_len,
                                                 uint32_t budget, const uint16_t *holders,
@@ -189,7 +192,7 @@ struct lexondar_authority_result lexondar_group(const uint8_t *text, size_t text
  * The run's answer and every holder's authority, from one reading and one run.
  * The first count numbers of result, which has at least 66,306 places, are an
  * entry for main and then for each resource object, ascending: the holder, how
- * many it holds, and which, ascending. Refusals 1 to 10.
+ * many it holds, and which, ascending. Refusals 1 to 10, and 14.
  */
 struct lexondar_report_result {
     uint32_t refusal;
@@ -210,7 +213,7 @@ struct lexondar_report_result lexondar_report(const uint8_t *text, size_t text_l
 /*
  * The lines of a form, as they stand in the text: length bytes of it, start
  * bytes after its first, from the form's `form` line to the byte 10 of the last
- * line before the next form or `main`. Forms count from 0. The sheet only has
+ * line before the next form, `devices` or `main`. Forms count from 0. The sheet only has
  * to be readable; a form that is not in it is refusal 7, line 0, after reading.
  * Refusals 1 to 7; start and length are 0 then.
  */
@@ -234,8 +237,8 @@ struct lexondar_form_result lexondar_form(const uint8_t *text, size_t text_len, 
  * the largest over its bodies in all forms, 0 if it has none; steps is main's,
  * which has no return. A run with at least that budget does not end as spent;
  * full store and full stack remain possible. A sheet not of this kind is
- * refusal 12, at its first `call` line against the rule. Refusals 1 to 10, 12
- * and 13.
+ * refusal 12, at its first `call` line against the rule. Refusals 1 to 10, and
+ * 12 to 14.
  */
 struct lexondar_bound_result {
     uint32_t refusal;

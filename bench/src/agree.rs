@@ -11,12 +11,14 @@ const SHEETS: u32 = 3_000;
 const LONG: u32 = 100_000;
 
 /// Compares the answers on generated sheets at budgets around each sheet's
-/// step count and at some others; tells what was reached.
+/// step count and at some others; tells what was reached. The interpreters know
+/// no devices.
 pub fn check() {
     let mut outcomes = [0; 4];
     for kind in [generator::sheet, generator::mill] {
         let texts = (0..).map(|index| kind(61, index));
-        let accepted = texts.filter(|text| second::verdict(text).is_ok());
+        let plain = |text: &[u8]| second::read(text).is_ok_and(|sheet| sheet.devices.is_empty());
+        let accepted = texts.filter(|text| plain(text) && second::verdict(text).is_ok());
         for text in accepted.take(SHEETS as usize) {
             compare(&text, &mut outcomes);
         }

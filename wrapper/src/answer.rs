@@ -116,10 +116,11 @@ pub enum Reason {
     NoHolder,
     CircularCall,
     BeyondCount,
+    WrongDevice,
 }
 
 impl Reason {
-    /// From the library's numbers; there is none over 13.
+    /// From the library's numbers; there is none over 14.
     fn of(number: u32, lack: u32, name: u32) -> Reason {
         match number {
             1 => Reason::BufferTooShort,
@@ -134,7 +135,8 @@ impl Reason {
             10 => Reason::Misfit(Lack::of(lack, name)),
             11 => Reason::NoHolder,
             12 => Reason::CircularCall,
-            _ => Reason::BeyondCount,
+            13 => Reason::BeyondCount,
+            _ => Reason::WrongDevice,
         }
     }
 
@@ -155,6 +157,7 @@ impl Reason {
             Reason::NoHolder => (11, "there is no such holder, or over 16 are listed"),
             Reason::CircularCall => (12, "a body calls its method's own name or a higher one"),
             Reason::BeyondCount => (13, "the most steps are over 4,294,967,295"),
+            Reason::WrongDevice => (14, "a device's form keeps a value or is pure"),
         }
     }
 

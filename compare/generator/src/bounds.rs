@@ -17,7 +17,7 @@ pub struct Bounds {
     pub circular: u64,
     /// Refusal 13.
     pub beyond: u64,
-    /// Refusals 2 to 10.
+    /// Refusals 2 to 10 and 14.
     pub others: u64,
     /// Answers near the limit, and amounts just beyond it.
     pub near: [u64; 2],

@@ -28,6 +28,7 @@ pub fn damage(rng: &mut Rng, mut text: Vec<u8>, kind: u64) -> Vec<u8> {
             b"copy=0\n".as_slice(),
             b"\n",
             b"main=1\n",
+            b"devices=1\ndevice=0\n",
             b"x",
             b"types=1\n",
             b"\0",

@@ -16,6 +16,17 @@ pub fn line(key: &'static str, numbers: &[u32]) -> Line {
     }
 }
 
+/// Where the numbers of a line stand that are slots.
+pub fn slot_places(line: &Line) -> Vec<usize> {
+    match line.key {
+        "new" => (1..line.numbers.len()).collect(),
+        "call" => vec![0, 2],
+        "put" => vec![1],
+        "copy" => vec![0],
+        _ => Vec::new(),
+    }
+}
+
 /// The bytes of a draft.
 pub fn render(draft: &[Line]) -> Vec<u8> {
     let mut text = String::new();

@@ -35,17 +35,20 @@ pub fn idle(rng: &mut Rng) -> Draft {
     let rows = make_rows(rng);
     let fit = FitTable::of(&rows);
     // The first ones keep nothing, so that later ones have what they keep.
-    let mut forms = Vec::from([ANY, PURE, CALLED].map(empty_form));
+    let mut forms = Vec::from([ANY, PURE, CALLED].map(FormPlan::bare));
     for _ in 0..rng.between(3, 14) {
         let row = rng.below(rows.len()) as u16;
         forms.push(make_form(rng, &rows, &fit, row));
     }
-    let plan = Plan {
+    let mut plan = Plan {
         style,
         rows,
         fit,
         forms,
+        devices: Vec::new(),
+        main: rng.between(style.main / 4, style.main),
     };
+    plan.add_devices(rng);
     write_sheet(rng, &plan)
 }
 
@@ -99,20 +102,11 @@ fn any_member(rng: &mut Rng, name: u16) -> Member {
     Member { name, kind }
 }
 
-fn empty_form(row: u16) -> FormPlan {
-    FormPlan {
-        row,
-        keeps: Vec::new(),
-        inits: Vec::new(),
-        silent: Vec::new(),
-    }
-}
-
 /// A form that keeps a value for most of its fields, and others. Bodies name
 /// about half of what it keeps, at most.
 fn make_form(rng: &mut Rng, rows: &[Row], fit: &FitTable, row: u16) -> FormPlan {
     let own = &rows[usize::from(row)];
-    let mut form = empty_form(row);
+    let mut form = FormPlan::bare(row);
     let others: &[u16] = match own.resource {
         true => &[ANY, ANY, PURE, CALLED, CALLED],
         false => &[PURE],

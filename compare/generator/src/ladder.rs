@@ -2,6 +2,7 @@
 //! Names are the rungs. Each row has some of them, and its forms keep an
 //! object of every row beneath, so that all lower rungs can be called.
 
+use crate::devices::with_some;
 use crate::draft::{line, Draft, Line};
 use crate::rng::Rng;
 use second::sheet::{CODE_LIMIT, FORM_LIMIT, INSTRUCTION_LIMIT, MEMBER_LIMIT, NAME_LIMIT};
@@ -63,7 +64,7 @@ pub fn ladder(rng: &mut Rng, shape: &Shape, goal: Goal) -> Draft {
     draft.extend(ladder.write_forms());
     draft.push(line("main", &[main.len() as u32]));
     draft.extend(main);
-    draft
+    with_some(rng, draft)
 }
 
 impl Ladder {

@@ -9,6 +9,12 @@ pub mod cases;
 pub mod census;
 mod code;
 mod damage;
+mod device;
+mod device_edges;
+mod device_faults;
+pub mod device_refusals;
+pub mod device_things;
+mod devices;
 mod draft;
 mod edges;
 mod group;
@@ -37,12 +43,13 @@ use draft::{render, Draft};
 use rng::Rng;
 
 pub use bound_edges::{bound_edges, BoundAnswer};
+pub use device_edges::{device_edges, Verdict};
 pub use group::group;
 pub use pair::pairs;
 pub use strict::ROTATION as STRICT_ROTATION;
 
 /// After this number of indexes the kinds come round again.
-pub const ROTATION: u64 = 22;
+pub const ROTATION: u64 = 26;
 
 /// The sheet of a seed and an index.
 pub fn sheet(seed: u64, index: u64) -> Vec<u8> {
@@ -65,7 +72,10 @@ pub fn sheet(seed: u64, index: u64) -> Vec<u8> {
             damage::damage(&mut rng, text, kind)
         }
         kind @ 17..=19 => edge(&mut rng, round * 3 + kind - 17),
-        kind => render(&misfit::misfit(&mut rng, round * 2 + kind - 20)),
+        kind @ 20..=21 => render(&misfit::misfit(&mut rng, round * 2 + kind - 20)),
+        22 => render(&device::device(&mut rng)),
+        23 => device_edges::edge(round),
+        kind => render(&device_faults::wrong(&mut rng, round * 2 + kind - 24)),
     }
 }
 
@@ -79,6 +89,12 @@ pub fn mill(seed: u64, index: u64) -> Vec<u8> {
 /// of its slots and kept values are named by nothing, or by nothing any more.
 pub fn idle(seed: u64, index: u64) -> Vec<u8> {
     render(&idle::idle(&mut Rng::new(seed, index)))
+}
+
+/// A well-typed sheet with one to eight devices, beside the rotation: main
+/// uses them, passes them on, or does not name them.
+pub fn device(seed: u64, index: u64) -> Vec<u8> {
+    render(&device::device(&mut Rng::new(seed, index)))
 }
 
 /// A sheet that can be read, beside the rotation: it has any number of forms

@@ -10,6 +10,8 @@ usage: generator SEED INDEX           write one sheet to standard output
        generator mill SEED INDEX      write one mill to standard output
        generator idle SEED INDEX      write one sheet that holds more than it
                                       names to standard output
+       generator device SEED INDEX    write one sheet with devices to standard
+                                      output
        generator readable SEED INDEX  write one readable sheet, mostly ill
                                       typed, to standard output
        generator strict SEED INDEX    write one sheet that is sure to finish, or
@@ -19,11 +21,12 @@ usage: generator SEED INDEX           write one sheet to standard output
                                       output
        generator report SEED COUNT    judge and run sheets 0 to COUNT - 1 of a
                                       seed and tell what they reach; exits with
-                                      status 1 if a refusal from 2 to 10, an
-                                      outcome, a case of misfit, an answer to
-                                      the question for the most steps or a
-                                      thing for the authority question is
-                                      reached by none
+                                      status 1 if a refusal from 2 to 10 or
+                                      14, an outcome, a case of misfit, an
+                                      answer to the question for the most
+                                      steps, a thing for the authority question
+                                      or a thing or fault of devices is reached
+                                      by none
        generator --help               this text
 
 SEED, INDEX and COUNT are decimals of 64 bits.
@@ -62,6 +65,7 @@ fn maker(kind: &str) -> Option<fn(u64, u64) -> Vec<u8>> {
     match kind {
         "mill" => Some(generator::mill),
         "idle" => Some(generator::idle),
+        "device" => Some(generator::device),
         "readable" => Some(generator::readable),
         "strict" => Some(generator::strict),
         "wide" => Some(generator::wide),

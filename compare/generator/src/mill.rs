@@ -38,12 +38,15 @@ pub fn mill(rng: &mut Rng) -> Draft {
         let keeps = rng.between(0, usize::from(KEEP_LIMIT));
         forms.push(make_form(rng, &rows, row, keeps));
     }
-    let plan = Plan {
+    let mut plan = Plan {
         style,
         rows,
         fit,
         forms,
+        devices: Vec::new(),
+        main: rng.between(style.main / 4, style.main),
     };
+    plan.add_devices(rng);
     write_sheet(rng, &plan)
 }
 

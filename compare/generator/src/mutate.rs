@@ -1,11 +1,11 @@
-//! Single changes to well-typed sheets, aimed at the refusals 3 to 10.
+//! Single changes to well-typed sheets, aimed at the refusals 3 to 10 and 14.
 
-use crate::draft::{Draft, Line};
+use crate::draft::{slot_places, Draft, Line};
 use crate::rng::Rng;
 
-const KEYS: [&str; 15] = [
-    "types", "type", "def", "var", "forms", "form", "keep", "init", "body", "main", "new", "call",
-    "get", "put", "copy",
+const KEYS: [&str; 17] = [
+    "types", "type", "def", "var", "forms", "form", "keep", "init", "body", "devices", "device",
+    "main", "new", "call", "get", "put", "copy",
 ];
 
 /// Numbers at or near a limit.
@@ -51,7 +51,7 @@ fn find(rng: &mut Rng, draft: &Draft, keys: &[&str]) -> Option<usize> {
 }
 
 /// Another number in place of this one, mostly near it.
-fn other(rng: &mut Rng, old: u32) -> u32 {
+pub fn other(rng: &mut Rng, old: u32) -> u32 {
     match rng.below(4) {
         0 => old + 1,
         1 => old.saturating_sub(1),
@@ -137,17 +137,8 @@ fn change_name(rng: &mut Rng, draft: &mut Draft) -> Option<()> {
 fn change_slot(rng: &mut Rng, draft: &mut Draft) -> Option<()> {
     let place = find(rng, draft, &["new", "call", "put", "copy"])?;
     let line = &mut draft[place];
-    let slots: &[usize] = match line.key {
-        "new" => &[1, 2, 3, 4, 5, 6, 7, 8],
-        "call" => &[0, 2],
-        "put" => &[1],
-        _ => &[0],
-    };
-    let slots: Vec<usize> = slots
-        .iter()
-        .copied()
-        .filter(|slot| *slot < line.numbers.len())
-        .collect();
+    let mut slots = slot_places(line);
+    slots.retain(|slot| *slot < line.numbers.len());
     let at = rng.try_pick(&slots)?;
     line.numbers[at] = rng.below(8) as u32;
     Some(())
@@ -185,7 +176,7 @@ fn copy_row(rng: &mut Rng, draft: &mut Draft) -> Option<()> {
     Some(())
 }
 
-/// Sets a count, kind or name just over its limit.
+/// Sets a count, kind or name just outside its limit.
 fn pass_limit(rng: &mut Rng, draft: &mut Draft) -> Option<()> {
     let place = find(rng, draft, &KEYS)?;
     let low = rng.chance(50);
@@ -194,7 +185,8 @@ fn pass_limit(rng: &mut Rng, draft: &mut Draft) -> Option<()> {
         "types" | "forms" => (0, 65),
         "type" if low => (0, 2),
         "type" | "form" => (1, 9),
-        "body" | "main" if low => (0, 0),
+        "body" | "devices" | "main" if low => (0, 0),
+        "devices" => (0, 9),
         "body" | "main" => (0, 33),
         "def" | "var" | "get" | "put" => (0, 64),
         "call" => (1, 64),

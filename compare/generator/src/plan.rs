@@ -1,6 +1,7 @@
 //! Well-typed sheets of any style.
 
 use crate::code::Writer;
+use crate::devices::{device_lines, pick_devices};
 use crate::draft::{line, Draft, Line};
 use crate::rng::Rng;
 use crate::rows::make_rows;
@@ -16,6 +17,10 @@ pub struct Plan {
     pub rows: Vec<Row>,
     pub fit: FitTable,
     pub forms: Vec<FormPlan>,
+    /// The forms of the devices.
+    pub devices: Vec<u16>,
+    /// How many instructions main has.
+    pub main: usize,
 }
 
 pub struct FormPlan {
@@ -27,6 +32,39 @@ pub struct FormPlan {
     pub silent: Vec<usize>,
 }
 
+impl FormPlan {
+    /// A form that keeps nothing.
+    pub fn bare(row: u16) -> FormPlan {
+        FormPlan {
+            row,
+            keeps: Vec::new(),
+            inits: Vec::new(),
+            silent: Vec::new(),
+        }
+    }
+}
+
+impl Plan {
+    /// The forms that a device may have: resources that keep nothing.
+    pub fn device_forms(&self) -> Vec<u16> {
+        let right = |form: &FormPlan| {
+            let resource = self.rows[usize::from(form.row)].resource;
+            resource && form.keeps.is_empty()
+        };
+        let forms = (0..).zip(&self.forms);
+        let forms = forms.filter(|(_, form)| right(form));
+        forms.map(|(number, _)| number).collect()
+    }
+
+    /// Gives some plans devices, as often as the style says.
+    pub fn add_devices(&mut self, rng: &mut Rng) {
+        let forms = self.device_forms();
+        if rng.chance(self.style.devices) && !forms.is_empty() {
+            self.devices = pick_devices(rng, &forms);
+        }
+    }
+}
+
 /// A well-typed sheet with sizes up to those of the style.
 pub fn well_typed(rng: &mut Rng, style: &Style) -> Draft {
     let (rows, fit) = make_rows(rng, style);
@@ -35,18 +73,16 @@ pub fn well_typed(rng: &mut Rng, style: &Style) -> Draft {
         rows,
         fit,
         forms: Vec::new(),
+        devices: Vec::new(),
+        main: rng.between(style.main / 4, style.main),
     };
     // Form 0 keeps nothing, so that main has a first line.
-    plan.forms.push(FormPlan {
-        row: 0,
-        keeps: Vec::new(),
-        inits: Vec::new(),
-        silent: Vec::new(),
-    });
+    plan.forms.push(FormPlan::bare(0));
     for row in form_rows(rng, &plan) {
         let form = plan_form(rng, &plan, row);
         plan.forms.extend(form);
     }
+    plan.add_devices(rng);
     write_sheet(rng, &plan)
 }
 
@@ -73,12 +109,7 @@ fn plan_form(rng: &mut Rng, plan: &Plan, number: usize) -> Option<FormPlan> {
     if !row.resource && row.has_field() {
         return None;
     }
-    let mut form = FormPlan {
-        row: number as u16,
-        keeps: Vec::new(),
-        inits: Vec::new(),
-        silent: Vec::new(),
-    };
+    let mut form = FormPlan::bare(number as u16);
     for member in &row.members {
         if let Kind::Field { row } = member.kind {
             let kept = kept_for_field(rng, plan, &mut form, row);
@@ -135,11 +166,20 @@ pub fn write_sheet(rng: &mut Rng, plan: &Plan) -> Draft {
         members - form.inits.len()
     };
     let mut bodies: usize = plan.forms.iter().map(methods).sum();
-    let main = rng.between(plan.style.main / 4, plan.style.main);
-    let mut left = INSTRUCTION_LIMIT - main;
+    let mut left = INSTRUCTION_LIMIT - plan.main;
     for form in 0..plan.forms.len() {
         write_form(rng, plan, form, (&mut left, &mut bodies), &mut draft);
     }
+    draft.extend(device_lines(&plan.devices));
+    draft.push(line("main", &[plan.main as u32]));
+    draft.extend(write_main(rng, plan));
+    draft
+}
+
+/// Main, with the devices in its first slots. It makes objects first, or
+/// does anything with its devices.
+fn write_main(rng: &mut Rng, plan: &Plan) -> Vec<Line> {
+    let making = plan.devices.is_empty() || rng.chance(70);
     let mut writer = Writer {
         plan,
         rng,
@@ -148,10 +188,13 @@ pub fn write_sheet(rng: &mut Rng, plan: &Plan) -> Draft {
         slots: Vec::new(),
         silent: Vec::new(),
     };
-    let code = writer.write_main(main);
-    draft.push(line("main", &[main as u32]));
-    draft.extend(code);
-    draft
+    for device in &plan.devices {
+        writer.fill(plan.forms[usize::from(*device)].row);
+    }
+    match making {
+        true => writer.write_main(plan.main),
+        false => writer.write(plan.main, None, None),
+    }
 }
 
 pub fn write_rows(rows: &[Row]) -> Draft {

@@ -1,6 +1,7 @@
 //! Sheets that can be read, whatever typing says of them: any number of
 //! forms, in any order, and twins among them.
 
+use crate::devices::{device_lines, pick_devices};
 use crate::draft::{line, Draft, Line};
 use crate::plan::write_rows;
 use crate::rng::Rng;
@@ -18,8 +19,13 @@ pub fn readable(rng: &mut Rng) -> Draft {
     let mut draft = write_rows(&rows);
     draft.push(line("forms", &[count as u32]));
     draft.extend(make_forms(rng, &rows, &style, count, INSTRUCTION_LIMIT - main).concat());
+    let devices = match count > 0 && rng.chance(40) {
+        true => pick_devices(rng, &Vec::from_iter(0..count as u16)),
+        false => Vec::new(),
+    };
+    draft.extend(device_lines(&devices));
     draft.push(line("main", &[main as u32]));
-    draft.extend(make_code(rng, main, 0, count));
+    draft.extend(make_code(rng, main, devices.len(), count));
     draft
 }
 

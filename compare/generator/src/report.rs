@@ -3,10 +3,12 @@
 use crate::bounds::Bounds;
 use crate::cases::{causes, CASES, CAUSES};
 use crate::census::{census, Misfits, NAMES};
+use crate::device_refusals::DeviceRefusals;
+use crate::device_things::Devices;
 use crate::rng::Rng;
 use crate::usable::Usable;
 use second::fit::FitTable;
-use second::{FitAnswer, Refusal};
+use second::{FitAnswer, Refusal, Sheet};
 
 /// Budgets at which the sheets of a report are run.
 const BUDGETS: [u32; 12] = [0, 1, 2, 7, 8, 20, 65, 66, 500, 10_000, 10_000, 100_000];
@@ -15,6 +17,13 @@ const BUDGETS: [u32; 12] = [0, 1, 2, 7, 8, 20, 65, 66, 500, 10_000, 10_000, 100_
 pub const STRICT_SHARE: u64 = 4;
 /// And an idle one for this many.
 pub const IDLE_SHARE: u64 = 8;
+/// And a device sheet for this many.
+pub const DEVICE_SHARE: u64 = 8;
+
+/// One more than the highest refusal number.
+const NUMBERS: usize = 15;
+/// The refusals that a sheet can have without a question about it.
+const OF_SHEETS: [usize; 10] = [2, 3, 4, 5, 6, 7, 8, 9, 10, 14];
 
 /// How many sheets reached each answer.
 #[derive(Clone, Debug, Default, PartialEq, Eq)]
@@ -23,9 +32,9 @@ pub struct Report {
     pub accepted: u64,
     /// By refusal number; 11 is asked of accepted sheets as well, for a
     /// single holder.
-    pub refusals: [u64; 12],
+    pub refusals: [u64; NUMBERS],
     /// The refusals whose line is in the second half of the sheet.
-    pub late: [u64; 12],
+    pub late: [u64; NUMBERS],
     pub outcomes: [u64; 4],
     /// Of refusal 10, by what is lacking.
     pub lacks: [u64; 4],
@@ -47,6 +56,12 @@ pub struct Report {
     pub usable: Usable,
     /// The same, of an idle sheet for every `IDLE_SHARE` sheets.
     pub idle: Usable,
+    /// What accepted sheets have of devices.
+    pub devices: Devices,
+    /// The same, of a device sheet for every `DEVICE_SHARE` sheets.
+    pub device: Devices,
+    /// For which faults of devices sheets are refused.
+    pub device_refusals: DeviceRefusals,
 }
 
 /// Judges and runs `count` sheets of a seed.
@@ -56,6 +71,12 @@ pub fn report(seed: u64, count: u64) -> Report {
         report.add(seed, index);
     }
     report
+}
+
+/// The table of a sheet that is accepted.
+fn accepted(text: &[u8]) -> Option<Sheet> {
+    second::verdict(text).ok()?;
+    second::read(text).ok()
 }
 
 impl Report {
@@ -69,12 +90,7 @@ impl Report {
         self.sheets += 1;
         self.add_fit(text, rng);
         self.bounds.add(text);
-        if index.is_multiple_of(STRICT_SHARE) {
-            self.strict.add(&crate::strict(seed, index / STRICT_SHARE));
-        }
-        if index.is_multiple_of(IDLE_SHARE) {
-            self.add_idle(&crate::idle(seed, index / IDLE_SHARE));
-        }
+        self.add_beside(seed, index);
         let answer = match second::run(text, budget) {
             Ok(answer) => answer,
             Err(refusal) => return self.add_refusal(text, refusal),
@@ -94,17 +110,28 @@ impl Report {
                 self.uses[place] += u64::from(used);
             }
             self.usable.add(&sheet);
+            self.devices.add(&sheet);
         }
     }
 
-    fn add_idle(&mut self, text: &[u8]) {
-        if let (Ok(()), Ok(sheet)) = (second::verdict(text), second::read(text)) {
-            self.idle.add(&sheet);
+    /// The sheets beside the rotation that have their turn now.
+    fn add_beside(&mut self, seed: u64, index: u64) {
+        if index.is_multiple_of(STRICT_SHARE) {
+            self.strict.add(&crate::strict(seed, index / STRICT_SHARE));
+        }
+        if index.is_multiple_of(IDLE_SHARE) {
+            let sheet = accepted(&crate::idle(seed, index / IDLE_SHARE));
+            sheet.iter().for_each(|sheet| self.idle.add(sheet));
+        }
+        if index.is_multiple_of(DEVICE_SHARE) {
+            let sheet = accepted(&crate::device(seed, index / DEVICE_SHARE));
+            sheet.iter().for_each(|sheet| self.device.add(sheet));
         }
     }
 
     fn add_refusal(&mut self, text: &[u8], refusal: Refusal) {
         self.refusals[refusal.number() as usize] += 1;
+        self.device_refusals.add(text, refusal);
         let lines = text.iter().filter(|byte| **byte == b'\n').count();
         let late = refusal.line as usize > lines / 2;
         self.late[refusal.number() as usize] += u64::from(late);
@@ -133,12 +160,13 @@ impl Report {
         }
     }
 
-    /// The refusals 2 to 10, outcomes, cases of misfit, answers to the
-    /// question for the most steps and things for the authority question
-    /// that no sheet reached.
+    /// The refusals of sheets, outcomes, cases of misfit, answers to the
+    /// question for the most steps, things for the authority question, and
+    /// things and faults of devices that no sheet reached.
     pub fn missing(&self) -> Vec<String> {
-        let refusals = (2..=10)
-            .filter(|number| self.refusals[*number] == 0)
+        let refusals = OF_SHEETS
+            .iter()
+            .filter(|number| self.refusals[**number] == 0)
             .map(|number| format!("refusal {number}"));
         let outcomes = (0..4)
             .filter(|number| self.outcomes[*number] == 0)
@@ -148,15 +176,20 @@ impl Report {
         let usable = self.idle.missing();
         let counted = refusals.chain(outcomes);
         let asked = bounds.into_iter().chain(usable);
-        counted.chain(misfits).chain(asked).collect()
+        let devices = self.device.missing().into_iter();
+        let devices = devices.chain(self.device_refusals.missing());
+        counted.chain(misfits).chain(asked).chain(devices).collect()
     }
 
     /// The tally, a line for each count.
     pub fn lines(&self) -> String {
         let mut lines = format!("sheets {}\naccepted {}\n", self.sheets, self.accepted);
-        for (number, count) in self.refusals.iter().enumerate().skip(2) {
-            let late = self.late[number];
-            lines += &format!("refusal {number}: {count}, late {late}\n");
+        for number in 2..NUMBERS {
+            // The question for the most steps is told of below.
+            if number == 11 || OF_SHEETS.contains(&number) {
+                let (count, late) = (self.refusals[number], self.late[number]);
+                lines += &format!("refusal {number}: {count}, late {late}\n");
+            }
         }
         for (number, count) in self.outcomes.iter().enumerate() {
             lines += &format!("outcome {number}: {count}\n");
@@ -179,6 +212,8 @@ impl Report {
         lines += &self.misfits.lines();
         lines += &self.bounds.line("sheets");
         lines += &self.strict.line("strict sheets");
-        lines + &self.usable.lines("accepted") + &self.idle.lines("idle")
+        lines += &(self.usable.lines("accepted") + &self.idle.lines("idle"));
+        lines += &(self.devices.lines("accepted") + &self.device.lines("device sheets"));
+        lines + &self.device_refusals.lines()
     }
 }

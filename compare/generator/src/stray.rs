@@ -34,7 +34,7 @@ enum Called {
 enum Where {
     First,
     Last,
-    /// A form that no `new` names.
+    /// A form that no `new` or `device` names.
     Idle,
     Any,
 }
@@ -140,16 +140,20 @@ fn at_place<'a>(sheet: &Sheet, all: &'a [Scene<'a>], place: Where) -> Vec<&'a Sc
     all.iter().filter(|scene| wanted(scene)).collect()
 }
 
-/// The lines of the forms that a `new` names.
+/// The lines of the forms that a `new` or a `device` names.
 fn made(sheet: &Sheet, bodies: &[Scene]) -> BTreeSet<u32> {
     let bodies = bodies.iter().map(|scene| scene.placed);
     let made = bodies.chain(&sheet.main).filter_map(|placed| {
         let Instruction::New { form, .. } = placed.instruction else {
             return None;
         };
-        Some(sheet.forms[usize::from(form)].line)
+        Some(form)
     });
-    made.collect()
+    let devices = sheet.devices.iter().map(|device| device.form);
+    let forms = made.chain(devices);
+    forms
+        .map(|form| sheet.forms[usize::from(form)].line)
+        .collect()
 }
 
 /// A well-typed call of such a name, without a look at later lines.
@@ -192,7 +196,7 @@ fn any_call(
 }
 
 /// A fault of typing on a line before this one, or after it.
-fn add_fault(rng: &mut Rng, draft: &mut Draft, place: usize, before: bool) {
+pub fn add_fault(rng: &mut Rng, draft: &mut Draft, place: usize, before: bool) {
     for _ in 0..FAULT_TRIES {
         let mut tried = draft.clone();
         let change = rng.pick(&FAULTS);

@@ -26,6 +26,8 @@ pub struct Style {
     pub strict: bool,
     /// How many of a hundred arguments and filled slots no later line names.
     pub silent: usize,
+    /// How many of a hundred sheets have devices, if a form can be one.
+    pub devices: usize,
 }
 
 const SMALL: Style = Style {
@@ -42,6 +44,7 @@ const SMALL: Style = Style {
     own_given: true,
     strict: false,
     silent: 0,
+    devices: 30,
 };
 
 pub const TINY: Style = Style {
@@ -138,6 +141,9 @@ pub const IDLE: Style = Style {
     silent: 35,
     ..SMALL
 };
+
+/// Device sheets; they make their rows, forms and devices themselves.
+pub const DEVICE: Style = SMALL;
 
 /// Bodies that call lower names: of a few, of any, and with much making.
 pub const STRICT: [Style; 3] = [

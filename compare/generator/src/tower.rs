@@ -1,6 +1,7 @@
 //! Towers: layers of objects that call the layer below several times, for
 //! long runs, full stores and pure receivers that make objects.
 
+use crate::devices::with_some;
 use crate::draft::{line, Draft};
 use crate::rng::Rng;
 
@@ -33,7 +34,7 @@ pub fn tower(rng: &mut Rng) -> Draft {
         draft.push(line("new", &[layer + 2, layer + 1]));
     }
     draft.push(line("call", &[depth as u32 + 1, 7, 0]));
-    draft
+    with_some(rng, draft)
 }
 
 /// The form of one layer. Layer 0 keeps nothing and calls nothing.

@@ -161,7 +161,14 @@ pub fn scenes(sheet: &Sheet) -> Vec<Scene<'_>> {
             add_scenes(sheet, (own, slots, Some(result)), code, &mut scenes);
         }
     }
-    add_scenes(sheet, (None, Vec::new(), None), &sheet.main, &mut scenes);
+    let devices = sheet.devices.iter();
+    let slots = devices.map(|device| sheet.forms[usize::from(device.form)].row);
+    add_scenes(
+        sheet,
+        (None, slots.collect(), None),
+        &sheet.main,
+        &mut scenes,
+    );
     scenes
 }
 

@@ -88,7 +88,7 @@ pub fn bound(text: &[u8]) -> Result<u32, Refusal> {
     bound::bound(&sheet)
 }
 
-/// The table of a sheet that passes the refusals 2 to 10.
+/// The table of a sheet that passes the refusals 2 to 10 and 14.
 fn accepted(text: &[u8]) -> Result<Sheet, Refusal> {
     let sheet = read(text)?;
     typing::judge(&sheet)?;

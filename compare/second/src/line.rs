@@ -15,6 +15,8 @@ pub enum Key {
     Keep,
     Init,
     Body,
+    Devices,
+    Device,
     Main,
     New,
     Call,
@@ -35,6 +37,8 @@ impl Key {
             b"keep" => Key::Keep,
             b"init" => Key::Init,
             b"body" => Key::Body,
+            b"devices" => Key::Devices,
+            b"device" => Key::Device,
             b"main" => Key::Main,
             b"new" => Key::New,
             b"call" => Key::Call,
@@ -73,6 +77,7 @@ impl Line {
 }
 
 /// The text that is still to be read.
+#[derive(Clone, Copy)]
 pub struct Lines<'a> {
     rest: &'a [u8],
     /// The place of the next line, counted from 1.
@@ -104,6 +109,11 @@ impl<'a> Lines<'a> {
             numbers,
             place,
         })
+    }
+
+    /// Whether the next line could be taken with this key.
+    pub fn next_is(mut self, key: Key) -> bool {
+        self.take(&[key]).is_ok()
     }
 
     /// Nothing may stand after main's last line.

@@ -83,22 +83,29 @@ pub struct Machine<'a> {
 }
 
 impl<'a> Machine<'a> {
-    /// The start: no object, and main's frame with no slot filled.
+    /// The start: the devices, and main's frame with one of them in each of
+    /// its first slots.
     pub fn start(sheet: &'a Sheet) -> Machine<'a> {
         let main = Frame {
             code: &sheet.main,
             taken: 0,
             base: 0,
-            given: 0,
+            given: sheet.devices.len(),
             receiver: None,
         };
-        Machine {
+        let mut machine = Machine {
             sheet,
             objects: Vec::new(),
             frames: vec![main],
             slots: Vec::new(),
             steps: 0,
+        };
+        for device in &sheet.devices {
+            // A device keeps nothing.
+            let made = machine.create(device.form, Vec::new());
+            machine.slots.push(made);
         }
+        machine
     }
 
     /// Takes steps until an outcome is reached.

@@ -28,11 +28,14 @@ pub fn read(text: &[u8]) -> Result<Sheet, Refusal> {
     };
     reader.read_rows()?;
     let forms = reader.read_forms()?;
-    let main = read_code(&mut reader, Key::Main, 0)?;
+    let devices = reader.read_devices()?;
+    // The devices are in main's first slots.
+    let main = read_code(&mut reader, Key::Main, devices.len() as u16)?;
     reader.lines.finish()?;
     Ok(Sheet {
         rows: reader.rows,
         forms,
+        devices,
         main,
     })
 }
@@ -157,6 +160,31 @@ impl Reader<'_> {
             // Own object, argument and kept values are filled at the start.
             Kind::Method { .. } => Ok(Part::Body(read_code(self, Key::Body, 2 + keeps)?)),
         }
+    }
+
+    /// The devices; none if the next line does not announce them.
+    fn read_devices(&mut self) -> Result<Vec<Device>, Refusal> {
+        if !self.lines.next_is(Key::Devices) {
+            return Ok(Vec::new());
+        }
+        let line = self.lines.take(&[Key::Devices])?;
+        let count = line.numbers[0];
+        if !(1..=DEVICE_LIMIT).contains(&count) {
+            return line.refuse(Reason::OverMeasure);
+        }
+        (0..count).map(|_| self.read_device()).collect()
+    }
+
+    fn read_device(&mut self) -> Result<Device, Refusal> {
+        let line = self.lines.take(&[Key::Device])?;
+        let form = line.numbers[0];
+        if form >= self.form_count {
+            return line.refuse(Reason::LooseEnd);
+        }
+        Ok(Device {
+            form,
+            line: line.place,
+        })
     }
 
     fn check_row(&self, row: u16, line: &Line) -> Result<(), Refusal> {

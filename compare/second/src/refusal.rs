@@ -50,10 +50,12 @@ pub enum Reason {
     CircularCall,
     /// Main's amount has no place in 32 bits.
     BeyondCount,
+    /// A device's form keeps a value or is pure.
+    WrongDevice,
 }
 
 impl Reason {
-    /// The reason's number in the rules, 2 to 13.
+    /// The reason's number in the rules, 2 to 14.
     pub fn number(self) -> u32 {
         match self {
             Reason::LongSheet => 2,
@@ -68,6 +70,7 @@ impl Reason {
             Reason::NoHolder => 11,
             Reason::CircularCall => 12,
             Reason::BeyondCount => 13,
+            Reason::WrongDevice => 14,
         }
     }
 }
@@ -84,7 +87,7 @@ impl Refusal {
         Refusal { reason, line }
     }
 
-    /// The refusal's number in the rules, 2 to 13.
+    /// The refusal's number in the rules, 2 to 14.
     pub fn number(self) -> u32 {
         self.reason.number()
     }

@@ -1,5 +1,5 @@
-//! The table that reading leaves: rows, forms and code, with the line of
-//! each thing that typing may still refuse.
+//! The table that reading leaves: rows, forms, devices and code, with the
+//! line of each thing that typing may still refuse.
 
 /// The limits of a sheet.
 pub const TEXT_LIMIT: usize = 65_535;
@@ -8,6 +8,7 @@ pub const MEMBER_LIMIT: u16 = 8;
 pub const NAME_LIMIT: u16 = 63;
 pub const FORM_LIMIT: u16 = 64;
 pub const KEEP_LIMIT: u16 = 8;
+pub const DEVICE_LIMIT: u16 = 8;
 pub const CODE_LIMIT: u16 = 32;
 pub const INSTRUCTION_LIMIT: usize = 1_024;
 
@@ -16,6 +17,8 @@ pub const INSTRUCTION_LIMIT: usize = 1_024;
 pub struct Sheet {
     pub rows: Vec<Row>,
     pub forms: Vec<Form>,
+    /// Empty where there is no `devices` line.
+    pub devices: Vec<Device>,
     pub main: Code,
 }
 
@@ -95,6 +98,13 @@ pub enum Part {
     Init { kept: u16, line: u32 },
     /// A method's body.
     Body(Code),
+}
+
+/// A device: an object of this form that is there at the start.
+#[derive(Clone, Copy, Debug, PartialEq, Eq)]
+pub struct Device {
+    pub form: u16,
+    pub line: u32,
 }
 
 /// The instructions of a body or of main; never empty.

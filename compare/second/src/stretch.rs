@@ -6,7 +6,7 @@ use crate::line::{split_key, Key};
 
 /// Whether a line with this key is past the forms.
 fn ends_forms(key: Key) -> bool {
-    key == Key::Main
+    matches!(key, Key::Devices | Key::Main)
 }
 
 /// The stretch of each form, in their order.

@@ -1,8 +1,8 @@
-//! The typing verdict: the refusals 8 to 10 of a sheet that was read.
+//! The typing verdict: the refusals 8 to 10 and 14 of a sheet that was read.
 
 use crate::fit::FitTable;
 use crate::refusal::{Lack, Reason, Refusal};
-use crate::sheet::{Code, Form, Instruction, Kind, Part, Placed, Row, Sheet};
+use crate::sheet::{Code, Device, Form, Instruction, Kind, Part, Placed, Row, Sheet};
 
 /// Judges the lines in their order; the first at fault is the answer.
 pub fn judge(sheet: &Sheet) -> Result<(), Refusal> {
@@ -13,7 +13,11 @@ pub fn judge(sheet: &Sheet) -> Result<(), Refusal> {
     for form in &sheet.forms {
         typing.judge_form(form)?;
     }
-    typing.judge_code(&sheet.main, None, Vec::new())?;
+    let mut slots = Vec::new();
+    for device in &sheet.devices {
+        slots.push(typing.judge_device(device)?);
+    }
+    typing.judge_code(&sheet.main, None, slots)?;
     Ok(())
 }
 
@@ -41,6 +45,15 @@ impl Typing<'_> {
             self.judge_part(form, member.kind, part)?;
         }
         Ok(())
+    }
+
+    /// The row of a device, whose form must keep nothing and be a resource.
+    fn judge_device(&self, device: &Device) -> Result<u16, Refusal> {
+        let form = &self.sheet.forms[usize::from(device.form)];
+        if !form.keeps.is_empty() || !self.row(form.row).resource {
+            return Err(Refusal::at(Reason::WrongDevice, device.line));
+        }
+        Ok(form.row)
     }
 
     fn judge_part(&self, form: &Form, kind: Kind, part: &Part) -> Result<(), Refusal> {

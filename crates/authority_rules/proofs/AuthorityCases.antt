@@ -1,8 +1,8 @@
 -- Computed cases of authority: P's sets as the program prints them, what counts of a frame and of an object (document 02, order 6),
--- a pure receiver's frame, fields, and the traps. Assumes nothing.
+-- a pure receiver's frame, fields, devices, and the traps. Assumes nothing.
 use mathlib.Core.Path.{_≡_, refl}
 use mathlib.Core.List.{List, [], _∷_, map}
-use Rattle.sheet_rules.specs.Samples.{P}
+use Rattle.sheet_rules.specs.Samples.{P, D}
 use Rattle.authority_rules.specs.Cases.{Case, heldBy, asked, answer}
 use Rattle.authority_rules.proofs.Opened.{holding}
 use Rattle.authority_rules.proofs.SmallSheets.{two, left, errand, farewell, idle, twice, gift, pantry}
@@ -21,6 +21,15 @@ cases =
     ∷ asked P (heldBy 8 0) (11 ∷ 0 ∷ [])
     ∷ asked P (heldBy 8 257) (11 ∷ 0 ∷ [])
     ∷ asked P (heldBy 0 256) (0 ∷ 0 ∷ [])
+    -- devices at the start: each itself, and main the scale, which it names; an object not yet made
+    ∷ asked D (heldBy 0 0) (0 ∷ 0 ∷ 0 ∷ [])
+    ∷ asked D (heldBy 0 1) (0 ∷ 0 ∷ 1 ∷ [])
+    ∷ asked D (heldBy 0 256) (0 ∷ 0 ∷ 0 ∷ [])
+    ∷ asked D (heldBy 0 2) (11 ∷ 0 ∷ [])
+    -- done: the clerk has the scale, and nobody but the valve has the valve
+    ∷ asked D (heldBy 7 3) (0 ∷ 0 ∷ 0 ∷ 3 ∷ [])
+    ∷ asked D (heldBy 7 1) (0 ∷ 0 ∷ 1 ∷ [])
+    ∷ asked D (heldBy 7 256) (0 ∷ 0 ∷ [])
     -- main's last slot, once it is filled; the last one filled so far is not it
     ∷ asked two (heldBy 1 256) (0 ∷ 0 ∷ [])
     ∷ asked two (heldBy 2 256) (0 ∷ 0 ∷ 1 ∷ [])

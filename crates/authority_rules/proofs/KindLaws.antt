@@ -30,7 +30,7 @@ fieldIn-has [] n r e = clash (cc)
 fieldIn-has (Field k b ∷ ms) n r e = tt
 fieldIn-has (Method k a b ∷ ms) n r e = fieldIn-has ms n r e
 
-not-pure : (k : Kind) → (T (isPure k) → ⊥) → T (isResourceKind k)
+pub not-pure : (k : Kind) → (T (isPure k) → ⊥) → T (isResourceKind k)
 not-pure Pure h = h tt
 not-pure Resource h = tt
 

@@ -17,6 +17,8 @@ pub mod GainReturns
 pub mod GainLaws
 pub mod GuaranteeHolds
 pub mod GuaranteeUsed
+pub mod StartHeld
+pub mod OriginHolds
 pub mod GainGives
 pub mod BeforeLaws
 pub mod CountingRefuted

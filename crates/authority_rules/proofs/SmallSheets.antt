@@ -7,7 +7,7 @@ use Rattle.sheet_rules.specs.Reading.{Meaning, readable, unreadable}
 -- the sheet that was read; an empty one where there is none
 unfoldable pub sheetOf : Meaning → Sheet
 sheetOf (readable s) = s
-sheetOf (unreadable r n) = record { rows = []; forms = []; main = [] }
+sheetOf (unreadable r n) = record { rows = []; forms = []; devices = []; main = [] }
 
 -- A CLERK
 

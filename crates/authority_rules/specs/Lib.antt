@@ -3,6 +3,7 @@ pub mod Authority
 pub mod Before
 pub mod Gain
 pub mod Guarantee
+pub mod Origin
 pub mod AuthorityQuestion
 pub mod Group
 pub mod GroupGain

@@ -14,7 +14,8 @@ use Rattle.sheet_rules.specs.declared.Member.the-variants.{Method, Field}
 use Rattle.sheet_rules.specs.declared.Reason.the-variants.{CircularCall}
 use Rattle.sheet_rules.specs.declared.Verdict.{Verdict}
 use Rattle.sheet_rules.specs.Sheet.{Instr, copy, calledName, Part, init, body, Form, Sheet, noMember, noForm, formAt}
-use Rattle.type_rules.specs.Typing.{Fault, unless, Own, membersAt, mainRows, bodyRows, rowsAfter, codeFaults, partFaults, partsFaults, keepFaults, formFaults, formsFaults, lineFaults, firstFormLine}
+use Rattle.type_rules.specs.Typing.{Fault, unless, Own, membersAt, bodyRows, rowsAfter, codeFaults, partFaults, partsFaults, keepFaults, formFaults, formsFaults, lineFaults, firstFormLine}
+use Rattle.type_rules.proofs.TypedLaws.{firstFault-accepts}
 use Rattle.table.specs.View.{instrIn, instrsIn, memberIn, partIn, sheetIn}
 use Rattle.table.specs.declared.forms.PartPlace.{PartPlace}
 use Rattle.table.specs.Told.{partTold}
@@ -26,6 +27,7 @@ use Rattle.code_typing.proofs.WalkLaws.{walk-none, walk-good, walk-append, walk
 use Rattle.form_typing.specs.Told.{PlaceSmall, an-init, a-body}
 use Rattle.form_typing.proofs.PartsLaws.{parts-lines}
 use Rattle.bound_rules.specs.Strict.{callsBelow, strictLines, strictness}
+use Rattle.bound_rules.proofs.StrictLaws.{afterLines, after-none}
 use Rattle.bound.specs.Told.{codeCalls, partCalls, partsCalls, formsCalls}
 use Rattle.bound.proofs.MembersLaws.{membersIn, partsIn, all-members, in-members, in-parts, member-is, part-is}
 
@@ -169,24 +171,16 @@ module _ {w : List ℕ} (h : Whole w) where
 
 -- THE SHEET
 
--- main may call any method
-main-passes : (s : Sheet) (n : ℕ) (rows : List ℕ) (is : List Instr) → walkVerdict (walk n (codeFaults (strictLines .ofMain) s none rows is)) ≡ Verdict.Accepted
-unfolding codeFaults
-main-passes s n rows [] = ap walkVerdict (walk-none n)
-main-passes s n rows (i ∷ is) = ap walkVerdict (sym (walk-good n (codeFaults (strictLines .ofMain) s none (rowsAfter s none rows i) is))) ∙ main-passes s (n + 1) (rowsAfter s none rows i) is
-
 pub sheet-strict : (s : Sheet) {first : ℕ} → first ≡ firstFormLine s → {forms : Walked} → forms ≡ walk first (formsCalls s) → {v : Verdict} → v ≡ walkVerdict forms → v ≡ strictness s
 unfolding strictness lineFaults
 sheet-strict s {first} first-is {forms} told {v} e =
     e ∙ go forms
-    ∙ ap (λ (x : Walked). walkVerdict (walkOn x (λ n. walk n mainLines))) told
-    ∙ ap walkVerdict (sym (walk-append first (formsCalls s) mainLines))
-    ∙ ap (λ (n : ℕ). walkVerdict (walk n (formsCalls s ++ mainLines))) first-is
-    ∙ sym (walk-verdict (firstFormLine s) (formsCalls s ++ mainLines))
+    ∙ ap (λ (x : Walked). walkVerdict (walkOn x (λ n. walk n (afterLines s)))) told
+    ∙ ap walkVerdict (sym (walk-append first (formsCalls s) (afterLines s)))
+    ∙ ap (λ (n : ℕ). walkVerdict (walk n (formsCalls s ++ afterLines s))) first-is
+    ∙ sym (walk-verdict (firstFormLine s) (formsCalls s ++ afterLines s))
   where
-    mainLines : List Fault
-    mainLines = none ∷ codeFaults (strictLines .ofMain) s none (mainRows s) (s .main)
-
-    go : (x : Walked) → walkVerdict x ≡ walkVerdict (walkOn x (λ n. walk n mainLines))
-    go (Walked.On n) = sym (ap walkVerdict (sym (walk-good n (codeFaults (strictLines .ofMain) s none (mainRows s) (s .main)))) ∙ main-passes s (n + 1) (mainRows s) (s .main))
+    -- the lines after the forms' pass
+    go : (x : Walked) → walkVerdict x ≡ walkVerdict (walkOn x (λ n. walk n (afterLines s)))
+    go (Walked.On n) = sym (sym (walk-verdict n (afterLines s)) ∙ firstFault-accepts n (afterLines s) (after-none s))
     go (Walked.Stopped q n) = refl

@@ -4,7 +4,7 @@ use Prim.Native.Nat.{ℕ, suc, pred, _≤_, _<_}
 use native.Mathlib.Omega.{arith}
 use mathlib.Core.Path.{_≡_, refl, sym, ap, _∙_, subst}
 use mathlib.Core.Bool.{Bool, true, false, cond}
-use mathlib.Core.List.{List, [], _∷_, map}
+use mathlib.Core.List.{List, [], _∷_, _++_, map}
 use mathlib.Core.Option.{Option, none, some}
 use mathlib.Core.Logic.{_↔_}
 use lib.Dec.{T, eqb, ltb, ltb→lt, lt→ltb}
@@ -24,10 +24,10 @@ use Rattle.sheet_rules.specs.Reading.{readable, meaning}
 use Rattle.sheet_rules.specs.RowLines.{nameOf}
 use Rattle.sheet_rules.specs.WellFormed.{NamesAscend, end, above, WellFormed}
 use Rattle.sheet_rules.specs.Print.{instrWritten}
-use Rattle.type_rules.specs.Typing.{membersAt, mainRows, Fault, unless, Own, InstrJudge, codeFaults, rowsAfter, bodyRows, partFaults, partsFaults, keepFaults, formFaults, formsFaults, lineFaults, firstFormLine}
+use Rattle.type_rules.specs.Typing.{membersAt, mainRows, Fault, unless, Own, InstrJudge, codeFaults, rowsAfter, bodyRows, partFaults, partsFaults, keepFaults, formFaults, formsFaults, devicesFaults, mainFaults, lineFaults, firstFormLine}
 use Rattle.type_rules.proofs.TypingLaws.{Faultless, firstFault-faultless, unless-passed}
 use Rattle.type_rules.proofs.TypedLaws.{faultless-cons, faultless-append, firstFault-accepts, passed}
-use Rattle.type_rules.proofs.FaultLines.{FormIs, FaultOf, of-form, of-keep, of-init, of-body, of-instr, of-main, of-main-instr, fault-line}
+use Rattle.type_rules.proofs.FaultLines.{FormIs, FaultOf, of-form, of-keep, of-init, of-body, of-instr, of-devices, of-device, of-main, of-main-instr, fault-line}
 use Rattle.machine_rules.specs.Step.{bodyIn}
 use Rattle.bound_rules.specs.Strict.{callsBelow, strictLines, strictness, bodyOf, CallsBelow, Strict}
 
@@ -175,22 +175,34 @@ module _ (s : Sheet) where
   main-none rows [] = λ g j. absurd (in-nil j)
   main-none rows (i ∷ is) = faultless-cons refl (main-none (rowsAfter s none rows i) is)
 
+  devices-none : (fs : List ℕ) → Faultless (devicesFaults strictLines fs)
+  unfolding devicesFaults
+  devices-none [] = λ g j. absurd (in-nil j)
+  devices-none (f ∷ fs) = faultless-cons refl (each (f ∷ fs))
+    where
+      each : (fs : List ℕ) → Faultless (map (strictLines .ofDevice) fs)
+      each [] = λ g j. absurd (in-nil j)
+      each (f ∷ fs) = faultless-cons refl (each fs)
+
+  -- no line after the forms' is against the rule
+  abbrev pub afterLines : List Fault
+  afterLines = devicesFaults strictLines (s .devices) ++ mainFaults strictLines s
+
+  pub after-none : Faultless afterLines
+  after-none = faultless-append (devicesFaults strictLines (s .devices)) (mainFaults strictLines s) (devices-none (s .devices)) (faultless-cons refl (main-none (mainRows s) (s .main)))
+
   -- of the sheets that reading gives, those without a line against the rule are exactly those of the stricter kind
   pub strict-exactly : WellFormed s → (strictness s ≡ Accepted) ↔ Strict s
   unfolding strictness lineFaults
   strict-exactly w = (
-    λ e. forms-below 0 (s .forms) (λ g j. firstFault-faultless (firstFormLine s) (lineFaults strictLines s) e g (in-left formLines mainLines j)),
+    λ e. forms-below 0 (s .forms) (λ g j. firstFault-faultless (firstFormLine s) (lineFaults strictLines s) e g (in-left formLines afterLines j)),
     λ h. firstFault-accepts (firstFormLine s) (lineFaults strictLines s)
-        (faultless-append formLines mainLines
-        (below-forms 0 (s .forms) (λ f i n a r is j. h f i n is (body-found ((w .rows (f .row)) .names) j)))
-        (faultless-cons refl (main-none (mainRows s) (s .main)))),
+        (faultless-append formLines afterLines
+        (below-forms 0 (s .forms) (λ f i n a r is j. h f i n is (body-found ((w .rows (f .row)) .names) j))) after-none),
   )
     where
       formLines : List Fault
       formLines = formsFaults strictLines s 0 (s .forms)
-
-      mainLines : List Fault
-      mainLines = none ∷ codeFaults (strictLines .ofMain) s none (mainRows s) (s .main)
 
 -- THE LINE OF A CIRCULAR CALL
 
@@ -216,6 +228,8 @@ line-against s (of-keep h i) e = clash (cc)
 line-against s (of-init h i) e = clash (cc)
 line-against s (of-body is) e = clash (cc)
 line-against s (of-instr h i rows x is) e = instr-against s h i x e
+line-against s of-devices e = clash (cc)
+line-against s (of-device i) e = clash (cc)
 line-against s of-main e = clash (cc)
 line-against s (of-main-instr rows x is) e = clash (cc)
 

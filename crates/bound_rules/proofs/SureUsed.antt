@@ -94,6 +94,7 @@ chain =
     record {
       rows = noRow ∷ tab chainRow 8;
       forms = noForm ∷ tab chainForm 8;
+      devices = [];
       main = new 0 [] ∷ (tab chainMade 8 ++ (call 8 63 0 ∷ []));
     }
 

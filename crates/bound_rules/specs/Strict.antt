@@ -26,6 +26,7 @@ strictLines =
       ofKeep = λ k f row. none;
       ofInit = λ k f n row kept. none;
       ofBody = λ k f n result rows i is. unless (callsBelow n (calledName i)) CircularCall;
+      ofDevice = λ f. none;
       ofMain = λ rows i is. none;
     }
 

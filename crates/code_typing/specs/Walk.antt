@@ -7,10 +7,10 @@ use Rattle.sheet_rules.specs.declared.Verdict.{Verdict}
 use Rattle.type_rules.specs.Typing.{Fault}
 use Rattle.code_typing.specs.declared.Walked.{Walked}
 
--- the number of the line after a sheet's last, at the most: its first form stands on line 579, each of 64 forms has 273 lines, and main
--- has 33. So no arithmetic on line numbers overflows
+-- the number of the line after a sheet's last, at the most: its first form stands on line 579, each of 64 forms has 273 lines, the
+-- devices have 9, and main has 33. So no arithmetic on line numbers overflows
 abbrev pub lineLimit : ℕ
-lineLimit = 18084
+lineLimit = 18093
 
 -- over lines numbered from n
 unfoldable pub walk : ℕ → List Fault → Walked

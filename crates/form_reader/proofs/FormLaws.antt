@@ -23,7 +23,7 @@ use Rattle.line_reader.specs.declared.Progress.{Progress}
 use Rattle.line_reader.specs.Told.{Room, readFrom, readTold, Advanced}
 use Rattle.reader_loop.proofs.LoopLaws.{Moved, moved-on}
 use Rattle.reader_loop.proofs.ThenLaws.{moved-then, moved-stop, advanced-sooner}
-use Rattle.keep_reader.specs.Reads.{KeepsRead}
+use Rattle.number_reader.specs.Reads.{KeepsRead}
 use Rattle.form_reader.specs.Reads.{PartsReady, partItem, PartsRead, FormRead, partsRest, formRest}
 use Rattle.part_reader.proofs.PartLaws.{not-moved}
 

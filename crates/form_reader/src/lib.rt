@@ -60,7 +60,7 @@ fn keep_form(text: &[u8], work: &mut [u16], form: FormAt, ns: Numbers, from: Cur
 {
     let parts = table::rows::member_count(work, wide(ns.n0));
     table::stores::put_heading(work, form.f, ns.n0, ns.n1, parts as u16);
-    let kept = keep_reader::read_keeps(text, work, form.f, wide(ns.n1), form.rows, from);
+    let kept = number_reader::read_keeps(text, work, form.f, wide(ns.n1), form.rows, from);
     let Progress::Moved { to } = kept else {
         return kept;
     };

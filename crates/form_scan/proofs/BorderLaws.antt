@@ -87,11 +87,15 @@ begins-first (c ∷ cs) (b ∷ bs) t = go (eqb b newline) refl (begins-first cs 
 
 border-first : (bs : List ℕ) → formBorder (firstLine bs) ≡ formBorder bs
 unfolding bytes all
-border-first bs = λ i. begins-first (keyText Place.Form) bs tt i || begins-first (keyText Place.Main) bs tt i
+border-first bs =
+    λ i. begins-first (keyText Place.Form) bs tt i || (begins-first (keyText Place.Devices) bs tt i || begins-first (keyText Place.Main) bs tt i)
 
--- and in the code by its two words, `form=` and `main=`
+-- and in the code by its three words, `form=`, `devices=` and `main=`
 abbrev formWord : List ℕ
 formWord = 102 ∷ 111 ∷ 114 ∷ 109 ∷ 61 ∷ []
+
+abbrev devicesWord : List ℕ
+devicesWord = 100 ∷ 101 ∷ 118 ∷ 105 ∷ 99 ∷ 101 ∷ 115 ∷ 61 ∷ []
 
 abbrev mainWord : List ℕ
 mainWord = 109 ∷ 97 ∷ 105 ∷ 110 ∷ 61 ∷ []
@@ -99,11 +103,19 @@ mainWord = 109 ∷ 97 ∷ 105 ∷ 110 ∷ 61 ∷ []
 module _ (bs : List ℕ) {r : Bool} (e : r ≡ begins formWord bs) where
   pub is-form : r ≡ true → true ≡ formBorder bs
   unfolding bytes
-  is-form t = sym (ap (λ (x : Bool). x || begins mainWord bs) (sym e ∙ t))
+  is-form t = sym (ap (λ (x : Bool). x || (begins devicesWord bs || begins mainWord bs)) (sym e ∙ t))
 
-  pub is-end : r ≡ false → {q : Bool} → q ≡ begins mainWord bs → q ≡ formBorder bs
-  unfolding bytes
-  is-end t g = g ∙ sym (ap (λ (x : Bool). x || begins mainWord bs) (sym e ∙ t))
+  module _ (t : r ≡ false) {d : Bool} (g : d ≡ begins devicesWord bs) where
+    -- no `form` line
+    other-word : (begins devicesWord bs || begins mainWord bs) ≡ formBorder bs
+    unfolding bytes
+    other-word = sym (ap (λ (x : Bool). x || (begins devicesWord bs || begins mainWord bs)) (sym e ∙ t))
+
+    pub is-devices : d ≡ true → true ≡ formBorder bs
+    is-devices u = sym (ap (λ (x : Bool). x || begins mainWord bs) (sym g ∙ u)) ∙ other-word
+
+    pub is-main : d ≡ false → {q : Bool} → q ≡ begins mainWord bs → q ≡ formBorder bs
+    is-main u m = m ∙ sym (ap (λ (x : Bool). x || begins mainWord bs) (sym g ∙ u)) ∙ other-word
 
 -- A WORD, BYTE BY BYTE
 

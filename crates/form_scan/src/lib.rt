@@ -29,6 +29,9 @@ fn is_border(bytes: &[u8]) -> bool
     if begins(bytes, b"form=") {
         return true;
     }
+    if begins(bytes, b"devices=") {
+        return true;
+    }
     begins(bytes, b"main=")
 }
 

@@ -6,7 +6,7 @@ use lib.ListN.{drop}
 use Rattle.sheet_rules.specs.declared.Operation.{Operation}
 use Rattle.sheet_rules.specs.declared.Operation.the-variants.{New, Call, Get, Put, Copy}
 use Rattle.sheet_rules.specs.declared.Place.{Place}
-use Rattle.sheet_rules.specs.declared.Place.the-variants.{Types, Row, Member, Forms, Form, Keep, Init, Body, Main, Instruction, Nowhere}
+use Rattle.sheet_rules.specs.declared.Place.the-variants.{Types, Row, Member, Forms, Form, Keep, Init, Body, Devices, Device, Main, Instruction, Nowhere}
 use Rattle.sheet_rules.specs.Keys.{samePlace, operationOf}
 use Rattle.sheet_rules.specs.Sheet.{new, call, get, put, copy}
 use Rattle.sheet_rules.specs.FormLines.{instrOf}
@@ -38,5 +38,7 @@ module _ (ns : Numbers) where
   stored-rule Keep h t = absurd t
   stored-rule Init h t = absurd t
   stored-rule Body h t = absurd t
+  stored-rule Devices h t = absurd t
+  stored-rule Device h t = absurd t
   stored-rule Main h t = absurd t
   stored-rule Nowhere h t = absurd t

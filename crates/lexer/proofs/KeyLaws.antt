@@ -10,7 +10,7 @@ use lib.Dec.{T, eqb, leb, eqb→eq, eqb-refl, leb→le}
 use lib.ListN.{length}
 use Rattle.lists.proofs.Tests.{and-left, and-right, and-intro, T-ext}
 use Rattle.sheet_rules.specs.declared.Place.{Place}
-use Rattle.sheet_rules.specs.declared.Place.the-variants.{Types, Row, Member, Forms, Form, Keep, Init, Body, Main, Instruction, Nowhere}
+use Rattle.sheet_rules.specs.declared.Place.the-variants.{Types, Row, Member, Forms, Form, Keep, Init, Body, Devices, Device, Main, Instruction, Nowhere}
 use Rattle.sheet_rules.specs.declared.MemberKind.the-variants.{Method, Field}
 use Rattle.sheet_rules.specs.declared.Operation.the-variants.{New, Call, Get, Put, Copy}
 use Rattle.sheet_rules.specs.Keys.{bytes, spelling, allPlaces, sameBytes, placeAmong, placeOf}
@@ -31,8 +31,8 @@ letter-low b t = leb→le 97 b (and-left (leb 97 b) (leb b 122) t)
 pub letter-high : (b : ℕ) → T (isLetter b) → b ≤ 122
 letter-high b t = leb→le b 122 (and-right (leb 97 b) (leb b 122) t)
 
--- every key is spelled by at most five letters
-spelled : (k : Place) → T (allLetters (spelling k) && leb (length (spelling k)) 5)
+-- every key is spelled by at most seven letters
+spelled : (k : Place) → T (allLetters (spelling k) && leb (length (spelling k)) 7)
 unfolding bytes allLetters
 spelled Types = tt
 spelled Row = tt
@@ -43,6 +43,8 @@ spelled Form = tt
 spelled Keep = tt
 spelled Init = tt
 spelled Body = tt
+spelled Devices = tt
+spelled Device = tt
 spelled Main = tt
 spelled (Instruction New) = tt
 spelled (Instruction Call) = tt
@@ -52,10 +54,10 @@ spelled (Instruction Copy) = tt
 spelled Nowhere = tt
 
 pub spelling-letters : (k : Place) → T (allLetters (spelling k))
-spelling-letters k = and-left (allLetters (spelling k)) (leb (length (spelling k)) 5) (spelled k)
+spelling-letters k = and-left (allLetters (spelling k)) (leb (length (spelling k)) 7) (spelled k)
 
-pub spelling-short : (k : Place) → length (spelling k) ≤ 5
-spelling-short k = leb→le (length (spelling k)) 5 (and-right (allLetters (spelling k)) (leb (length (spelling k)) 5) (spelled k))
+pub spelling-short : (k : Place) → length (spelling k) ≤ 7
+spelling-short k = leb→le (length (spelling k)) 7 (and-right (allLetters (spelling k)) (leb (length (spelling k)) 7) (spelled k))
 
 -- the same bytes are the same word
 
@@ -88,9 +90,9 @@ placeAmong-nowhere (k ∷ ks) w h = go (sameBytes (spelling k) w) refl (placeAmo
 pub placeOf-no-letters : (w : List ℕ) → (T (allLetters w) → ⊥) → placeOf w ≡ Nowhere
 placeOf-no-letters w h = placeAmong-nowhere allPlaces w (λ k e. h (subst (λ (u : List ℕ). T (allLetters u)) e (spelling-letters k)))
 
-pub placeOf-long : (w : List ℕ) → 5 < length w → placeOf w ≡ Nowhere
+pub placeOf-long : (w : List ℕ) → 7 < length w → placeOf w ≡ Nowhere
 placeOf-long w h =
-    placeAmong-nowhere allPlaces w (λ k e. let s : length w ≤ 5 = subst (λ (u : List ℕ). length u ≤ 5) e (spelling-short k) in omega arith)
+    placeAmong-nowhere allPlaces w (λ k e. let s : length w ≤ 7 = subst (λ (u : List ℕ). length u ≤ 7) e (spelling-short k) in omega arith)
 
 -- the number of a word, last letter first
 

@@ -105,55 +105,67 @@ lost-word w b q t ne h =
     (sym (split-letters w (b ∷ q) t ∙ ap (glue w) (splitOn-other equals b q ne) ∙ glue-step w b (splitOn equals q) ∙ r .2))
     (keyed-hopeless (w ++ (b ∷ []) ++ r .0) (r .1) (h (r .0)))
 
--- the first letter of a word, and the others
+-- six letters leave room for a seventh, and seven leave none: letter by letter
 
-head-high : (b : ℕ) (w : List ℕ) → T (allLetters (b ∷ w)) → b ≤ 122
-unfolding allLetters
-head-high b w t = letter-high b (and-left (isLetter b) (allLetters w) t)
+-- 27 to the power n
+power : ℕ → ℕ
+power zero = 1
+power (suc n) = power n * 27
 
-head-low : (b : ℕ) (w : List ℕ) → T (allLetters (b ∷ w)) → 97 ≤ b
-unfolding allLetters
-head-low b w t = letter-low b (and-left (isLetter b) (allLetters w) t)
+-- a letter more of a number that is below a power, or at least one
+letter-below : (c p b : ℕ) → c < p → b ≤ 122 → c * 27 + (b - 96) < p * 27
+letter-below c p b h l = omega arith
 
-others : (b : ℕ) (w : List ℕ) → T (allLetters (b ∷ w)) → T (allLetters w)
-unfolding allLetters
-others b w t = and-right (isLetter b) (allLetters w) t
+letter-above : (c p b : ℕ) → p ≤ c → p * 27 ≤ c * 27 + (b - 96)
+letter-above c p b h = omega arith
 
--- four letters leave room for a fifth, and five leave none
+-- after a number below a power, the code of some letters is below that power times theirs
+code-below : (w : List ℕ) (c n : ℕ) → T (allLetters w) → c < power n → wordCode c w < power (n + length w)
+unfolding wordCode allLetters power
+code-below [] c n t h = subst (λ (m : ℕ). c < power m) (let z : n ≡ n + 0 = omega arith in z) h
+code-below (b ∷ w) c n t h =
+    subst (λ (m : ℕ). wordCode (c * 27 + (b - 96)) w < power m) (let z : suc n + length w ≡ n + suc (length w) = omega arith in z)
+    (code-below w (c * 27 + (b - 96)) (suc n) (and-right (isLetter b) (allLetters w) t)
+    (letter-below c (power n) b h (letter-high b (and-left (isLetter b) (allLetters w) t))))
 
-code-room : (w : List ℕ) → T (allLetters w) → length w ≤ 4 → wordCode 0 w < codeLimit
-unfolding wordCode
-code-room [] t h = omega arith
-code-room (a1 ∷ []) t h = let x1 = head-high a1 [] t in omega arith
-code-room (a1 ∷ a2 ∷ []) t h = let x1 = head-high a1 _ t in let x2 = head-high a2 [] (others a1 _ t) in omega arith
-code-room (a1 ∷ a2 ∷ a3 ∷ []) t h =
-    let x1 = head-high a1 _ t in
-    let x2 = head-high a2 _ (others a1 _ t) in
-    let x3 = head-high a3 [] (others a2 _ (others a1 _ t)) in
-    omega arith
-code-room (a1 ∷ a2 ∷ a3 ∷ a4 ∷ []) t h =
-    let x1 = head-high a1 _ t in
-    let x2 = head-high a2 _ (others a1 _ t) in
-    let x3 = head-high a3 _ (others a2 _ (others a1 _ t)) in
-    let x4 = head-high a4 [] (others a3 _ (others a2 _ (others a1 _ t))) in
-    omega arith
-code-room (a1 ∷ a2 ∷ a3 ∷ a4 ∷ a5 ∷ w) t h = absurd (omega arith)
+-- and after one that reaches it, reaches it
+code-above : (w : List ℕ) (c n : ℕ) → power n ≤ c → power (n + length w) ≤ wordCode c w
+unfolding wordCode power
+code-above [] c n h = subst (λ (m : ℕ). power m ≤ c) (let z : n ≡ n + 0 = omega arith in z) h
+code-above (b ∷ w) c n h =
+    subst (λ (m : ℕ). power m ≤ wordCode (c * 27 + (b - 96)) w) (let z : suc n + length w ≡ n + suc (length w) = omega arith in z)
+    (code-above w (c * 27 + (b - 96)) (suc n) (letter-above c (power n) b h))
 
-code-grows : (c : ℕ) (w : List ℕ) → c ≤ wordCode c w
-unfolding wordCode
-code-grows c [] = omega arith
-code-grows c (b ∷ w) = omega (arith, code-grows (c * 27 + (b - 96)) w)
+power-some : (n : ℕ) → 1 ≤ power n
+unfolding power
+power-some zero = omega arith
+power-some (suc n) = omega (arith, power-some n)
 
-code-full : (w : List ℕ) → T (allLetters w) → 5 ≤ length w → codeLimit ≤ wordCode 0 w
-unfolding wordCode
+power-grows : (n k : ℕ) → power n ≤ power (n + k)
+unfolding power
+power-grows n zero = subst (λ (m : ℕ). power n ≤ power m) (let z : n ≡ n + 0 = omega arith in z) (omega arith)
+power-grows n (suc k) =
+    subst (λ (m : ℕ). power n ≤ power m) (let z : suc (n + k) ≡ n + suc k = omega arith in z) (omega (arith, power-grows n k, power-some (n + k)))
+
+code-room : (w : List ℕ) → T (allLetters w) → length w ≤ 6 → wordCode 0 w < codeLimit
+unfolding power
+code-room w t h =
+    let p : power (length w) ≤ power (length w + (6 - length w)) = power-grows (length w) (6 - length w) in
+    let z : length w + (6 - length w) ≡ 6 = omega arith in
+    let y : 0 + length w ≡ length w = omega arith in
+    let q : wordCode 0 w < power (length w) = subst (λ (m : ℕ). wordCode 0 w < power m) y (code-below w 0 0 t (omega arith)) in
+    omega (arith, q, subst (λ (m : ℕ). power (length w) ≤ power m) z p)
+
+code-full : (w : List ℕ) → T (allLetters w) → 7 ≤ length w → codeLimit ≤ wordCode 0 w
+unfolding wordCode allLetters power
 code-full [] t h = absurd (omega arith)
-code-full (a1 ∷ []) t h = absurd (omega arith)
-code-full (a1 ∷ a2 ∷ []) t h = absurd (omega arith)
-code-full (a1 ∷ a2 ∷ a3 ∷ []) t h = absurd (omega arith)
-code-full (a1 ∷ a2 ∷ a3 ∷ a4 ∷ []) t h = absurd (omega arith)
-code-full (a1 ∷ a2 ∷ a3 ∷ a4 ∷ a5 ∷ w) t h =
-    let x1 = head-low a1 _ t in
-    omega (arith, code-grows (((((0 * 27 + (a1 - 96)) * 27 + (a2 - 96)) * 27 + (a3 - 96)) * 27 + (a4 - 96)) * 27 + (a5 - 96)) w)
+code-full (b ∷ w) t h =
+    let l : 97 ≤ b = letter-low b (and-left (isLetter b) (allLetters w) t) in
+    let p : power 6 ≤ power (6 + (length w - 6)) = power-grows 6 (length w - 6) in
+    let z : 6 + (length w - 6) ≡ length w = omega arith in
+    let y : 0 + length w ≡ length w = omega arith in
+    let q : power (length w) ≤ wordCode (0 * 27 + (b - 96)) w = subst (λ (m : ℕ). power m ≤ wordCode (0 * 27 + (b - 96)) w) y (code-above w (0 * 27 + (b - 96)) 0 (omega arith)) in
+    omega (arith, q, subst (λ (m : ℕ). power 6 ≤ power m) z p)
 
 -- the result of scanning a key, after letters w, in a line that goes on with q
 pub data KeyScanned (w q : List ℕ) (i : ℕ) : KeyRead → Type 0 where
@@ -181,7 +193,7 @@ no-equals : (w : List ℕ) → T (allLetters w) → Hopeless (lineOf (w ++ []))
 unfolding lineOf keyed splitOn glue
 no-equals w t = subst (λ (ps : List (List ℕ)). Hopeless (keyed ps)) (sym (split-letters w [] t)) is-torn
 
-pub key-scanned : (q : List ℕ) → Lacks newline q → (rest w : List ℕ) → T (allLetters w) → length w ≤ 5 → (c i : ℕ) → c ≡ wordCode 0 w
+pub key-scanned : (q : List ℕ) → Lacks newline q → (rest w : List ℕ) → T (allLetters w) → length w ≤ 7 → (c i : ℕ) → c ≡ wordCode 0 w
     → KeyScanned w q i (keyScan c i (q ++ (newline ∷ rest)))
 unfolding keyScan
 key-scanned [] l rest w t h c i e = no-key (no-equals w t)
@@ -198,7 +210,7 @@ key-scanned (b ∷ q) l rest w t h c i e =
     no-letter ne nl =
         lost-word w b q t ne (λ p. placeOf-no-letters (w ++ (b ∷ []) ++ p) (λ s. nl (letters-last w b (letters-front (w ++ (b ∷ [])) p s))))
 
-    go : (T (isLetter b) → length (w ++ (b ∷ [])) ≤ 5 → KeyScanned (w ++ (b ∷ [])) q (i + 1) Rest)
+    go : (T (isLetter b) → length (w ++ (b ∷ [])) ≤ 7 → KeyScanned (w ++ (b ∷ [])) q (i + 1) Rest)
         → (x1 : Bool) → eqb b equals ≡ x1 → (x2 : Bool) → ltb b 97 ≡ x2 → (x3 : Bool) → ltb 122 b ≡ x3 → (x4 : Bool) → ltb c codeLimit ≡ x4
         → KeyScanned w (b ∷ q) i (cond x1 (KeyRead.Letters c (i + 1)) (cond x2 KeyRead.Torn (cond x3 KeyRead.Torn (cond x4 Rest KeyRead.Torn))))
     go more true e1 x2 e2 x3 e3 x4 e4 =
@@ -208,21 +220,21 @@ key-scanned (b ∷ q) l rest w t h c i e =
         no-key (no-letter (eqb-false b equals e1) (λ s. let y = letter-low b s in let z = ltb-true b 97 e2 in omega arith))
     go more false e1 false e2 true e3 x4 e4 =
         no-key (no-letter (eqb-false b equals e1) (λ s. let y = letter-high b s in let z = ltb-true 122 b e3 in omega arith))
-    go more false e1 false e2 false e3 true e4 = onward w q b i Rest (more is-letter (room (decLe (length w) 4)))
+    go more false e1 false e2 false e3 true e4 = onward w q b i Rest (more is-letter (room (decLe (length w) 6)))
       where
         is-letter : T (isLetter b)
         is-letter =
             and-intro (leb 97 b) (leb b 122) (subst T (sym (le-leb 97 b (ltb-false b 97 e2))) tt)
             (subst T (sym (le-leb b 122 (ltb-false 122 b e3))) tt)
 
-        room : Dec (length w ≤ 4) → length (w ++ (b ∷ [])) ≤ 5
+        room : Dec (length w ≤ 6) → length (w ++ (b ∷ [])) ≤ 7
         room (yes p) = omega (arith, length-snoc w b)
         room (no p) =
             absurd (let y : codeLimit ≤ wordCode 0 w = code-full w t (omega arith) in let z = ltb-true c codeLimit e4 in omega arith)
     go more false e1 false e2 false e3 false e4 =
-        no-key (lost-word w b q t (eqb-false b equals e1) (λ p. placeOf-long (w ++ (b ∷ []) ++ p) (long p (decLe (length w) 4))))
+        no-key (lost-word w b q t (eqb-false b equals e1) (λ p. placeOf-long (w ++ (b ∷ []) ++ p) (long p (decLe (length w) 6))))
       where
-        long : (p : List ℕ) → Dec (length w ≤ 4) → 5 < length (w ++ (b ∷ []) ++ p)
+        long : (p : List ℕ) → Dec (length w ≤ 6) → 7 < length (w ++ (b ∷ []) ++ p)
         long p (yes k) =
             absurd (let y : wordCode 0 w < codeLimit = code-room w t k in let z = ltb-false c codeLimit e4 in omega arith)
         long p (no k) = omega (arith, length-append (w ++ (b ∷ [])) p, length-snoc w b)

@@ -90,9 +90,9 @@ unfoldable pub numbersScan : Numbers → Part → ℕ → List ℕ → NumbersRe
 numbersScan ns p i [] = NumbersRead.Torn
 numbersScan ns p i (b ∷ bs) = onTurn (turnOf p b) ns i (λ ns′ p′. numbersScan ns′ p′ (i + 1) bs)
 
--- the letters of a key as a number, a letter a digit from 1 to 26 of base 27; with a fifth letter the number is full
+-- the letters of a key as a number, a letter a digit from 1 to 26 of base 27; with a seventh letter the number is full
 abbrev pub codeLimit : ℕ
-codeLimit = 531441
+codeLimit = 387420489
 
 abbrev pub onLetter : ℕ → ℕ → ℕ → (ℕ → KeyRead) → KeyRead
 onLetter c i b more =

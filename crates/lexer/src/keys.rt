@@ -38,7 +38,7 @@ impl KeyFacts {
 }
 
 // The key of a code, each word's letters as digits of base 27, is matched to its place and number count.
-pub fn key_of(code: u32) -> KeyFacts
+pub fn key_of(code: u64) -> KeyFacts
     ensures { λ r. ⌜ r ≡ factsOf (placeOfCode code) ⌝ }
 {
     match code {
@@ -51,6 +51,8 @@ pub fn key_of(code: u32) -> KeyFacts
         220309 => KeyFacts::of(Place::Keep, 1, 1),
         187616 => KeyFacts::of(Place::Init, 1, 1),
         50434 => KeyFacts::of(Place::Body, 1, 1),
+        1633297681 => KeyFacts::of(Place::Devices, 1, 1),
+        60492506 => KeyFacts::of(Place::Device, 1, 1),
         256865 => KeyFacts::of(Place::Main, 1, 1),
         10364 => KeyFacts::instruction(Operation::New, 1, 9),
         60114 => KeyFacts::instruction(Operation::Call, 3, 3),

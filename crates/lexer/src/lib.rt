@@ -44,7 +44,7 @@ pub enum NumbersRead {
 
 // The letters up to an equal sign, as a number, and the place after it.
 pub enum KeyRead {
-    Letters { code: u32, next: usize },
+    Letters { code: u64, next: usize },
     Torn,
 }
 
@@ -214,7 +214,7 @@ fn read_key(text: &[u8], from: usize) -> KeyRead
     ensures { λ r. ⌜ r ≡ keyScan 0 from (drop from (now (text .entry))) ⌝ }
 {
     let mut at = from;
-    let mut code: u32 = 0;
+    let mut code: u64 = 0;
     while at < text.len() {
         let byte = text[at];
         at = at + 1;
@@ -227,10 +227,10 @@ fn read_key(text: &[u8], from: usize) -> KeyRead
         if 122 < byte {
             return KeyRead::Torn;
         }
-        if 531441 <= code {
+        if 387420489 <= code {
             return KeyRead::Torn;
         }
-        code = code * 27 + ((byte as u32) - 96);
+        code = code * 27 + ((byte as u64) - 96);
     }
     KeyRead::Torn
 }

@@ -8,7 +8,7 @@ use lib.Dec.{T, leb, leb→le, lit≤}
 use lib.ListN.{take}
 use Rattle.lists.proofs.Tests.{and-left}
 use Rattle.sheet_rules.specs.declared.Place.{Place}
-use Rattle.sheet_rules.specs.declared.Place.the-variants.{Types, Row, Member, Forms, Form, Keep, Init, Body, Main, Instruction, Nowhere}
+use Rattle.sheet_rules.specs.declared.Place.the-variants.{Types, Row, Member, Forms, Form, Keep, Init, Body, Devices, Device, Main, Instruction, Nowhere}
 use Rattle.sheet_rules.specs.declared.Reason.{Reason}
 use Rattle.sheet_rules.specs.Keys.{countOf, samePlace, takes, stands}
 use Rattle.sheet_rules.specs.Reader.{Judged, bad, demand, nth}
@@ -80,6 +80,8 @@ two-of-row Form t = absurd t
 two-of-row Keep t = absurd t
 two-of-row Init t = absurd t
 two-of-row Body t = absurd t
+two-of-row Devices t = absurd t
+two-of-row Device t = absurd t
 two-of-row Main t = absurd t
 two-of-row (Instruction operation) t = absurd t
 two-of-row Nowhere t = absurd t
@@ -93,6 +95,8 @@ two-of-form Form t = lit≤ tt
 two-of-form Keep t = absurd t
 two-of-form Init t = absurd t
 two-of-form Body t = absurd t
+two-of-form Devices t = absurd t
+two-of-form Device t = absurd t
 two-of-form Main t = absurd t
 two-of-form (Instruction operation) t = absurd t
 two-of-form Nowhere t = absurd t

@@ -13,7 +13,7 @@ use Rattle.sheet_rules.proofs.Place.{the-type}
 use Rattle.sheet_rules.specs.declared.MemberKind.{MemberKind}
 use Rattle.sheet_rules.specs.declared.Operation.{Operation}
 use Rattle.sheet_rules.specs.declared.Place.{Place}
-use Rattle.sheet_rules.specs.declared.Place.the-variants.{Types, Row, Member, Forms, Form, Keep, Init, Body, Main, Instruction, Nowhere}
+use Rattle.sheet_rules.specs.declared.Place.the-variants.{Types, Row, Member, Forms, Form, Keep, Init, Body, Devices, Device, Main, Instruction, Nowhere}
 use Rattle.sheet_rules.specs.Keys.{placeNumber, samePlace, memberKind, operationOf}
 
 tag-number : (k : Place) → tagOf the-type k ≡ placeNumber k
@@ -25,6 +25,8 @@ tag-number Form = refl
 tag-number Keep = refl
 tag-number Init = refl
 tag-number Body = refl
+tag-number Devices = refl
+tag-number Device = refl
 tag-number Main = refl
 tag-number (Instruction operation) = refl
 tag-number Nowhere = refl
@@ -44,11 +46,13 @@ no-member Form ks t o = refl
 no-member Keep ks t o = refl
 no-member Init ks t o = refl
 no-member Body ks t o = refl
+no-member Devices ks t o = refl
+no-member Device ks t o = refl
 no-member Main ks t o = refl
 no-member (Instruction operation) ks t o = refl
 no-member Nowhere ks t o = refl
 
-pub no-instruction : (k : Place) (ks : List ℕ) → T (not (hasKey ks 9)) → OneOf ks (tagOf the-type k) → Operation.Copy ≡ operationOf k
+pub no-instruction : (k : Place) (ks : List ℕ) → T (not (hasKey ks 11)) → OneOf ks (tagOf the-type k) → Operation.Copy ≡ operationOf k
 no-instruction Types ks t o = refl
 no-instruction Row ks t o = refl
 no-instruction (Member kind) ks t o = refl
@@ -57,6 +61,8 @@ no-instruction Form ks t o = refl
 no-instruction Keep ks t o = refl
 no-instruction Init ks t o = refl
 no-instruction Body ks t o = refl
+no-instruction Devices ks t o = refl
+no-instruction Device ks t o = refl
 no-instruction Main ks t o = refl
-no-instruction (Instruction operation) ks t o = absurd (miss ks 9 t o)
+no-instruction (Instruction operation) ks t o = absurd (miss ks 11 t o)
 no-instruction Nowhere ks t o = refl

@@ -65,7 +65,7 @@ strict-instr forms filled k ns p = demand-no _ _ _ (stands-unfit (Place.Instruct
 
 -- reading one line, by what the lexer found
 
-one-refusing : {A : Type 0} (judge : Place → List ℕ → Judged A) → Strict judge → (ls : List Line) (n : ℕ) → Refusing ls → one judge ls n ≡ refused Malformed n
+pub one-refusing : {A : Type 0} (judge : Place → List ℕ → Judged A) → Strict judge → (ls : List Line) (n : ℕ) → Refusing ls → one judge ls n ≡ refused Malformed n
 unfolding one settle
 one-refusing judge st [] n nothing = refl
 one-refusing judge st (torn ∷ ls) n (hopeless h) = refl

@@ -37,9 +37,11 @@ fn place_number(place: Place) -> u32
         Place::Keep => 5,
         Place::Init => 6,
         Place::Body => 7,
-        Place::Main => 8,
-        Place::Instruction { .. } => 9,
-        Place::Nowhere => 10,
+        Place::Devices => 8,
+        Place::Device => 9,
+        Place::Main => 10,
+        Place::Instruction { .. } => 11,
+        Place::Nowhere => 12,
     }
 }
 
@@ -60,7 +62,7 @@ pub fn member_kind(place: Place) -> MemberKind
     kind
 }
 
-// `types=T` and `forms=F`: a count within its limits.
+// `types=T`, `forms=F` and `devices=D`: a count within its limits.
 pub fn count_line(wanted: Place, low: u16, high: u16, place: Place, numbers: Numbers) -> LineJudged
     requires { ⌜ Fitting place numbers ⌝ }
     ensures { λ r. ⌜ lineTold r (good (numbers .n0)) ≡ countLine wanted low high place (listOf numbers) ⌝ }
@@ -85,7 +87,7 @@ pub fn count_line(wanted: Place, low: u16, high: u16, place: Place, numbers: Num
     LineJudged::Good
 }
 
-// `keep=T` and `init=k`: the number of something that is there.
+// `keep=T`, `init=k` and `device=F`: the number of something that is there.
 pub fn existing_line(wanted: Place, there: u32, place: Place, numbers: Numbers) -> LineJudged
     requires { ⌜ Fitting place numbers ⌝ }
     ensures { λ r. ⌜ lineTold r (good (numbers .n0)) ≡ existingLine wanted there place (listOf numbers) ⌝ }

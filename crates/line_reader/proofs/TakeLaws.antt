@@ -13,25 +13,28 @@ use Rattle.sheet_rules.specs.declared.Operation.{Operation}
 use Rattle.sheet_rules.specs.declared.Place.{Place}
 use Rattle.sheet_rules.specs.declared.Reason.{Reason}
 use Rattle.sheet_rules.specs.declared.Reason.the-variants.{Malformed}
-use Rattle.sheet_rules.specs.Limits.{rowLimit, formLimit}
+use Rattle.sheet_rules.specs.Limits.{rowLimit, formLimit, deviceLimit}
 use Rattle.sheet_rules.specs.Keys.{samePlace, takes, stands}
 use Rattle.sheet_rules.specs.Lines.{linesOf}
 use Rattle.sheet_rules.specs.Sheet.{Instr}
 use Rattle.sheet_rules.specs.Reader.{Judged, good, demand, got, refused, settle, one, countLine, existingLine}
 use Rattle.sheet_rules.specs.RowLines.{rowLine, memberLine}
 use Rattle.sheet_rules.specs.FormLines.{formLine, bodyLine, instrLine}
+use Rattle.sheet_rules.specs.DeviceLines.{nextIs}
 use Rattle.lexer.specs.declared.Numbers.{Numbers}
 use Rattle.lexer.specs.declared.LineRead.{LineRead}
 use Rattle.lexer.specs.Scan.{listOf, lineAt}
+use Rattle.lexer.proofs.LineLaws.{Found, no-line}
+use Rattle.lexer.proofs.LineFound.{line-found}
 use Rattle.line_judges.specs.declared.LineJudged.{LineJudged}
 use Rattle.line_judges.specs.Told.{lineTold, rowTold, memberRest}
 use Rattle.line_judges.proofs.StrictLaws.{Strict, strict-count, strict-existing, strict-body, strict-row, strict-form, strict-member, strict-instr, one-torn, one-line, Taken, line-taken}
 use Rattle.line_reader.specs.declared.Cursor.{Cursor}
 use Rattle.line_reader.specs.declared.LineTaken.{LineTaken}
-use Rattle.line_reader.specs.Told.{Room, readFrom, number, heading, instruction, Judges, settled, lineRead, lineAsked, Stands, Tells, Onward, LineTold, InstrTold}
+use Rattle.line_reader.specs.Told.{NextTold, Room, readFrom, number, heading, instruction, Judges, settled, lineRead, lineAsked, Stands, Tells, Onward, LineTold, InstrTold}
 
-no-line : {q : Reason} {l : ℕ} {k : Place} {ns : Numbers} {c : Cursor} {A : Type 0} → LineTaken.Refused q l ≡ LineTaken.Line k ns c → A
-no-line e = clash (cc)
+not-taken : {q : Reason} {l : ℕ} {k : Place} {ns : Numbers} {c : Cursor} {A : Type 0} → LineTaken.Refused q l ≡ LineTaken.Line k ns c → A
+not-taken e = clash (cc)
 
 same-numbers : {k k′ : Place} {ns ns′ : Numbers} {c c′ : Cursor} → LineTaken.Line k ns c ≡ LineTaken.Line k′ ns′ c′ → ns ≡ ns′
 same-numbers e = cc
@@ -54,6 +57,18 @@ good-place forms filled k ns i e =
     go true x e = tt
     go false x e = clash (cc)
 
+-- the key of the next line, by what the lexer gave
+module _ (text : List ℕ) (at : ℕ) (wanted : Place) where
+  pub next-untaken : lineAt text at ≡ LineRead.Torn → NextTold wanted (linesOf (drop at text)) false
+  next-untaken e = go (subst (Found text at) e (line-found text at))
+    where
+      go : Found text at LineRead.Torn → NextTold wanted (linesOf (drop at text)) false
+      go (no-line r) = NextTold.untaken r
+
+  pub next-told : {k : Place} {ns : Numbers} {next : ℕ} → lineAt text at ≡ LineRead.Line k ns next → {b : Bool} → b ≡ samePlace k wanted
+      → NextTold wanted (linesOf (drop at text)) b
+  next-told {k} {ns} {next} e h = NextTold.told (h ∙ sym (ap (nextIs wanted) ((line-taken text at k ns next e) .lines)))
+
 module _ (text : List ℕ) (c : Cursor) where
   -- no line, or one that no place takes
   module _ (e : lineAt text (c .at) ≡ LineRead.Torn) where
@@ -62,14 +77,16 @@ module _ (text : List ℕ) (c : Cursor) where
 
     tells-torn : (wanted : Place) (b : ℕ) → Tells wanted b text c (LineTaken.Refused Malformed (c .line))
     tells-torn Place.Types b = torn (countLine Place.Types 1 rowLimit) (strict-count Place.Types 1 rowLimit)
-    tells-torn Place.Row b = ((λ earlier. torn (rowLine earlier) (strict-row earlier)), λ k ns c′ x. no-line x)
+    tells-torn Place.Row b = ((λ earlier. torn (rowLine earlier) (strict-row earlier)), λ k ns c′ x. not-taken x)
     tells-torn (Place.Member m) b =
-        ((λ limit earlier h before low. torn (memberLine limit earlier h before) (strict-member limit earlier h before)), λ k ns c′ x. no-line x)
+        ((λ limit earlier h before low. torn (memberLine limit earlier h before) (strict-member limit earlier h before)), λ k ns c′ x. not-taken x)
     tells-torn Place.Forms b = torn (countLine Place.Forms 0 formLimit) (strict-count Place.Forms 0 formLimit)
     tells-torn Place.Form b = torn (formLine b) (strict-form b)
     tells-torn Place.Keep b = torn (existingLine Place.Keep b) (strict-existing Place.Keep b)
     tells-torn Place.Init b = torn (existingLine Place.Init b) (strict-existing Place.Init b)
     tells-torn Place.Body b = torn (bodyLine Place.Body b) (strict-body Place.Body b)
+    tells-torn Place.Devices b = torn (countLine Place.Devices 1 deviceLimit) (strict-count Place.Devices 1 deviceLimit)
+    tells-torn Place.Device b = torn (existingLine Place.Device b) (strict-existing Place.Device b)
     tells-torn Place.Main b = torn (bodyLine Place.Main b) (strict-body Place.Main b)
     tells-torn (Place.Instruction o) b = refl
     tells-torn Place.Nowhere b = refl
@@ -81,7 +98,7 @@ module _ (text : List ℕ) (c : Cursor) where
     instr-torn forms filled =
         record {
           told = torn (instrLine forms filled) (strict-instr forms filled);
-          stands = λ k ns c′ x. no-line x;
+          stands = λ k ns c′ x. not-taken x;
           onward = Onward.stopped;
         }
 
@@ -108,11 +125,11 @@ module _ (text : List ℕ) (c : Cursor) where
     -- a fact of every good line, by what was settled
     few : (j : LineJudged) → (j ≡ LineJudged.Good → ns .n1 ≤ 8) → (k′ : Place) (ns′ : Numbers) (c′ : Cursor) → settled j k ns c next ≡ LineTaken.Line k′ ns′ c′ → ns′ .n1 ≤ 8
     few LineJudged.Good h k′ ns′ c′ x = subst (λ (y : Numbers). y .n1 ≤ 8) (same-numbers x) (h refl)
-    few (LineJudged.Refused q) h k′ ns′ c′ x = no-line x
+    few (LineJudged.Refused q) h k′ ns′ c′ x = not-taken x
 
     here : (w : Place) (j : LineJudged) → (j ≡ LineJudged.Good → samePlace k w ≡ true) → Stands w (settled j k ns c next)
     here w LineJudged.Good h k′ ns′ c′ x = subst (λ (y : Place). samePlace y w ≡ true) (same-key x) (h refl)
-    here w (LineJudged.Refused q) h k′ ns′ c′ x = no-line x
+    here w (LineJudged.Refused q) h k′ ns′ c′ x = not-taken x
 
     tells-line : (wanted : Place) (b : ℕ) (j : LineJudged) → Judges wanted b k ns j → Tells wanted b text c (settled j k ns c next)
     tells-line Place.Types b j t = judged (countLine Place.Types 1 rowLimit) number j t
@@ -126,6 +143,8 @@ module _ (text : List ℕ) (c : Cursor) where
     tells-line Place.Keep b j t = judged (existingLine Place.Keep b) number j t
     tells-line Place.Init b j t = judged (existingLine Place.Init b) number j t
     tells-line Place.Body b j t = judged (bodyLine Place.Body b) number j t
+    tells-line Place.Devices b j t = judged (countLine Place.Devices 1 deviceLimit) number j t
+    tells-line Place.Device b j t = judged (existingLine Place.Device b) number j t
     tells-line Place.Main b j t = judged (bodyLine Place.Main b) number j t
     tells-line (Place.Instruction o) b j t = ap (λ (x : LineJudged). settled x k ns c next) t
     tells-line Place.Nowhere b j t = ap (λ (x : LineJudged). settled x k ns c next) t

@@ -1,7 +1,7 @@
 -- What the reader of lines tells, in the rules' words, and where reading may stand. Stands on reading.
 use Prim.Native.Nat.{ℕ, _+_, _≤_, _<_}
 use mathlib.Core.Path.{_≡_}
-use mathlib.Core.Bool.{true}
+use mathlib.Core.Bool.{Bool, true, false}
 use mathlib.Core.List.{List}
 use lib.ListN.{length, drop}
 use Rattle.sheet_rules.specs.declared.Member.{Member}
@@ -9,15 +9,17 @@ use Rattle.sheet_rules.specs.declared.MemberKind.{MemberKind}
 use Rattle.sheet_rules.specs.declared.Operation.{Operation}
 use Rattle.sheet_rules.specs.declared.Place.{Place}
 use Rattle.sheet_rules.specs.declared.Reason.{Reason}
-use Rattle.sheet_rules.specs.Limits.{rowLimit, formLimit}
+use Rattle.sheet_rules.specs.Limits.{rowLimit, formLimit, deviceLimit}
 use Rattle.sheet_rules.specs.Keys.{samePlace, operationOf}
-use Rattle.sheet_rules.specs.Lines.{linesOf}
+use Rattle.sheet_rules.specs.Lines.{Line, linesOf}
 use Rattle.sheet_rules.specs.Sheet.{Row, Instr}
 use Rattle.sheet_rules.specs.Reader.{Judged, good, Read, got, refused, Reader, settle, one, countLine, existingLine}
 use Rattle.sheet_rules.specs.RowLines.{Heading, rowLine, memberLine}
 use Rattle.sheet_rules.specs.FormLines.{FormHeading, formLine, bodyLine, instrOf, instrLine}
+use Rattle.sheet_rules.specs.DeviceLines.{nextIs}
 use Rattle.lexer.specs.declared.Numbers.{Numbers}
 use Rattle.lexer.specs.Scan.{listOf, Fitting}
+use Rattle.lexer.proofs.LineLaws.{Refusing}
 use Rattle.line_judges.specs.declared.LineJudged.{LineJudged}
 use Rattle.line_judges.specs.Told.{lineTold, rowTold, Lowest, memberRest}
 use Rattle.line_reader.specs.declared.Cursor.{Cursor}
@@ -46,6 +48,11 @@ gotAt text c a = got a (linesOf (drop (c .at) text)) (c .line)
 abbrev pub nextLine : Cursor → ℕ → Cursor
 nextLine c at = record { at = at; line = c .line + 1; used = c .used }
 
+-- whether the next line has a key of a place; of a line that no place takes it is told that it has not
+pub data NextTold (wanted : Place) (ls : List Line) : Bool → Type 0 where
+  told : {b : Bool} → b ≡ nextIs wanted ls → NextTold wanted ls b
+  untaken : Refusing ls → NextTold wanted ls false
+
 -- A LINE, JUDGED
 
 -- the number of a line with one, the heading of a form, and the instruction, that a line's numbers make
@@ -73,6 +80,8 @@ Judges Place.Form b k ns j = lineTold j (good (heading k ns)) ≡ formLine b k (
 Judges Place.Keep b k ns j = lineTold j (good (number k ns)) ≡ existingLine Place.Keep b k (listOf ns)
 Judges Place.Init b k ns j = lineTold j (good (number k ns)) ≡ existingLine Place.Init b k (listOf ns)
 Judges Place.Body b k ns j = lineTold j (good (number k ns)) ≡ bodyLine Place.Body b k (listOf ns)
+Judges Place.Devices b k ns j = lineTold j (good (number k ns)) ≡ countLine Place.Devices 1 deviceLimit k (listOf ns)
+Judges Place.Device b k ns j = lineTold j (good (number k ns)) ≡ existingLine Place.Device b k (listOf ns)
 Judges Place.Main b k ns j = lineTold j (good (number k ns)) ≡ bodyLine Place.Main b k (listOf ns)
 Judges (Place.Instruction o) b k ns j = j ≡ LineJudged.Refused Reason.Malformed
 Judges Place.Nowhere b k ns j = j ≡ LineJudged.Refused Reason.Malformed
@@ -113,6 +122,8 @@ Tells Place.Form b text c p = lineRead text heading p ≡ readFrom text c (one (
 Tells Place.Keep b text c p = lineRead text number p ≡ readFrom text c (one (existingLine Place.Keep b))
 Tells Place.Init b text c p = lineRead text number p ≡ readFrom text c (one (existingLine Place.Init b))
 Tells Place.Body b text c p = lineRead text number p ≡ readFrom text c (one (bodyLine Place.Body b))
+Tells Place.Devices b text c p = lineRead text number p ≡ readFrom text c (one (countLine Place.Devices 1 deviceLimit))
+Tells Place.Device b text c p = lineRead text number p ≡ readFrom text c (one (existingLine Place.Device b))
 Tells Place.Main b text c p = lineRead text number p ≡ readFrom text c (one (bodyLine Place.Main b))
 Tells (Place.Instruction o) b text c p = p ≡ LineTaken.Refused Reason.Malformed (c .line)
 Tells Place.Nowhere b text c p = p ≡ LineTaken.Refused Reason.Malformed (c .line)

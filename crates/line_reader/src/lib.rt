@@ -2,7 +2,9 @@
 ghost use mathlib.Core.Path.{_≡_};
 ghost use Prim.Native.Nat.{_<_};
 ghost use Rattle.lexer.specs.Scan.{Fitting};
-ghost use Rattle.line_reader.specs.Told.{Room, Judges, nextLine, settled, stoppedBy, LineTold, InstrTold};
+ghost use lib.ListN.{drop};
+ghost use Rattle.sheet_rules.specs.Lines.{linesOf};
+ghost use Rattle.line_reader.specs.Told.{NextTold, Room, Judges, nextLine, settled, stoppedBy, LineTold, InstrTold};
 use lexer::LineRead;
 use lexer::Numbers;
 use line_judges::LineJudged;
@@ -36,8 +38,8 @@ pub enum Progress {
 }
 
 // Judges a line by the place that is wanted and by a bound: the lowest name that a member may have; how many rows there are, for a form's
-// row and for a kept one; how many values the form keeps, for an `init`; how many instructions stand before a body or main. The other
-// lines have no bound, and no instruction is judged here.
+// row and for a kept one; how many values the form keeps, for an `init`; how many instructions stand before a body or main; how many forms
+// there are, for a device. The other lines have no bound, and no instruction is judged here.
 fn judge(wanted: Place, bound: u32, place: Place, numbers: Numbers) -> LineJudged
     requires { ⌜ Fitting place numbers ⌝ }
     ensures { λ r. ⌜ Judges wanted bound place numbers r ⌝ }
@@ -51,6 +53,8 @@ fn judge(wanted: Place, bound: u32, place: Place, numbers: Numbers) -> LineJudge
         Place::Keep => line_judges::existing_line(Place::Keep, bound, place, numbers),
         Place::Init => line_judges::existing_line(Place::Init, bound, place, numbers),
         Place::Body => line_judges::body_line(Place::Body, bound, place, numbers),
+        Place::Devices => line_judges::count_line(Place::Devices, 1, 8, place, numbers),
+        Place::Device => line_judges::existing_line(Place::Device, bound, place, numbers),
         Place::Main => line_judges::body_line(Place::Main, bound, place, numbers),
         Place::Instruction { .. } => LineJudged::Refused {
             reason: Reason::Malformed,
@@ -89,6 +93,17 @@ fn settle(judged: LineJudged, place: Place, numbers: Numbers, from: Cursor, at: 
             line: from.line,
         },
     }
+}
+
+// Whether the line where reading stands has a key of some place; one that no place takes has not.
+pub fn is_next(text: &[u8], from: Cursor, wanted: Place) -> bool
+    requires { ⌜ Room (now text) from ⌝ }
+    ensures { λ r. ⌜ NextTold wanted (linesOf (drop (from .at) (now (text .entry)))) r ⌝ }
+{
+    let LineRead::Line { place, .. } = lexer::read_line(text, from.at) else {
+        return false;
+    };
+    line_judges::same_place(place, wanted)
 }
 
 // The line where reading stands, where one of some place is wanted.

@@ -3,10 +3,12 @@ use Prim.Native.Nat.{ℕ, zero, suc, _≤_, _<_}
 use native.Mathlib.Omega.{arith}
 use native.Mathlib.Decide.{decLe, ℕ-discrete}
 use mathlib.Core.Path.{_≡_, refl, sym, ap, ap₂, _∙_}
-use mathlib.Core.List.{List, [], _∷_, _++_}
+use mathlib.Core.List.{List, [], _∷_, _++_, map}
 use lib.ListN.{length, getD, set, length-append, length-set, List·getD-append}
 use lib.Seq.{getD-at, getD-set-same, getD-set-other, ext-getD}
+use Rattle.lists.specs.Pairwise.{Pairwise}
 use Rattle.lists.specs.Tab.{tab}
+use Rattle.lists.proofs.PairwiseLaws.{pairwise-snoc}
 
 module _ {A : Type 0} where
   pub tab-suc : (f : ℕ → A) (n : ℕ) → tab f (suc n) ≡ tab f n ++ (f n ∷ [])
@@ -59,3 +61,15 @@ module _ {A : Type 0} where
           ∙ getD-set-same (tab f n) i (g i) (f 0) (omega (arith, length-tab f n))
           ∙ ap g (sym e)
       each j l (no d) = getD-set-other (tab f n) i j (g i) (f 0) d ∙ getD-tab f n j (f 0) l ∙ sym (h j l d)
+
+-- a list by its elements, each put through a function
+pub map-tab : {A B : Type 0} (f : A → B) (xs : List A) (d : A) → map f xs ≡ tab (λ i. f (getD xs i d)) (length xs)
+unfolding tab
+map-tab f [] d = refl
+map-tab f (x ∷ xs) d = ap (λ ys. f x ∷ ys) (map-tab f xs d) ∙ sym (tab-cons (λ i. f (getD (x ∷ xs) i d)) (length xs))
+
+-- two such lists, place by place
+pub pairwise-tab : {A B : Type 0} {R : A → B → Type 0} (f : ℕ → A) (g : ℕ → B) (n : ℕ) → ((i : ℕ) → i < n → R (f i) (g i)) → Pairwise R (tab f n) (tab g n)
+unfolding tab
+pairwise-tab f g zero h = Pairwise.none
+pairwise-tab f g (suc n) h = pairwise-snoc (pairwise-tab f g n (λ i k. h i (omega arith))) (h n (omega arith))

@@ -1,2 +1,3 @@
+pub mod StartLaws
 pub mod RunLaws
 pub mod MoveLaws

@@ -1,42 +1,38 @@
 -- The run's loop: what it keeps, a law for its start, for a step, and for its end; the sheet's run, and its answer. Assumes nothing.
-use Prim.Native.Nat.{ℕ, suc, pred, _+_, _-_, _≤_, _<_}
+use Prim.Native.Nat.{ℕ, suc, pred, _-_, _≤_, _<_}
 use native.Mathlib.Omega.{arith}
 use mathlib.Core.Path.{_≡_, refl, sym, ap, _∙_, subst}
-use mathlib.Core.List.{List, []}
-use mathlib.Core.Option.{none}
+use mathlib.Core.List.{List}
 use mathlib.Core.Logic.{_⊎_, inl, inr}
 use denote.Enum.Declared.{tagOf}
 use lib.ListN.{length}
 use Rattle.lists.specs.Tab.{tab}
-use Rattle.sheet_rules.specs.Sheet.{Sheet, Instr}
+use Rattle.sheet_rules.specs.Sheet.{Sheet}
 use Rattle.machine_rules.specs.declared.Outcome.{Outcome}
 use Rattle.machine_rules.specs.declared.Tally.{Tally}
-use Rattle.machine_rules.specs.State.{start, lastOf}
+use Rattle.machine_rules.specs.State.{lastOf}
 use Rattle.machine_rules.specs.Steps.{startTally, runFrom, run}
 use Rattle.machine_rules.specs.Sound.{Sound}
-use Rattle.machine_rules.proofs.SoundLaws.{start-sound, step-sound}
+use Rattle.machine_rules.proofs.StartLaws.{start-sound}
+use Rattle.machine_rules.proofs.SoundLaws.{step-sound}
 use Rattle.machine_rules.proofs.TakenLaws.{run-step}
-use Rattle.table.specs.Layout.{mainStartAt, mainCountAt, objectAddress, stateEnd, workSize, slotAddress}
-use Rattle.table.specs.View.{cell, instrsIn, sheetIn}
+use Rattle.table.specs.Layout.{deviceCountAt, objectAddress, stateEnd, workSize, slotAddress}
+use Rattle.table.specs.View.{cell, sheetIn}
 use Rattle.table.specs.Only.{Only}
-use Rattle.table.proofs.ViewLaws.{only-refl, only-trans, only-widen, sheetIn-same}
-use Rattle.table.proofs.SheetLaws.{main-is}
+use Rattle.table.proofs.ViewLaws.{only-refl, only-trans, only-widen}
 use Rattle.accepted.specs.Accepted.{AcceptedIn}
 use Rattle.accepted.proofs.AcceptedLaws.{accepted-same}
 use Rattle.machine_places.specs.Located.{PlacesFilled}
 use Rattle.machine_places.proofs.LocatedLaws.{places-sheet, located-same}
 use Rattle.machine_state.specs.declared.Top.{Top}
-use Rattle.machine_state.specs.Held.{slotsIn, belowIn, stateIn}
+use Rattle.machine_state.specs.Held.{slotsIn, stateIn}
 use Rattle.machine_steps.specs.Running.{Running, Took}
 use Rattle.machine_steps.proofs.FacingLaws.{frames-few, room, last-is}
 use Rattle.machine.specs.declared.Move.{Move}
 use Rattle.machine.proofs.Move.{the-type}
 use Rattle.machine.specs.declared.Halt.{Halt}
-use Rattle.machine.specs.Runs.{Moved, Ends, startTop, outcomeOf, Able, SheetRun}
-
--- the sheet stays what it is while the state changes
-pub sheet-kept : (w w′ : List ℕ) → Only (objectAddress 0) stateEnd w w′ → sheetIn w′ ≡ sheetIn w
-sheet-kept w w′ o = sheetIn-same w w′ (λ i h. o .below i (omega arith))
+use Rattle.machine.specs.Runs.{Moved, Ends, startTop, outcomeOf, Able, DevicesPut, Ready, SheetRun}
+use Rattle.machine.proofs.StartLaws.{sheet-kept, start-is}
 
 -- a step taken leaves a run
 pub took-running : (w : List ℕ) (t : Top) (k : Tally) (w′ : List ℕ) (t′ : Top) (k′ : Tally) → Running w t k → Took w t k w′ t′ k′ → Running w′ t′ k′
@@ -55,19 +51,13 @@ took-running w t k w′ t′ k′ r o =
 
 -- the start
 
-start-is : (w : List ℕ) → stateIn (sheetIn w) w (startTop w) startTally ≡ start (sheetIn w)
-unfolding tab belowIn
-start-is w =
-    let count : cell w mainStartAt + cell w mainCountAt - cell w mainStartAt ≡ cell w mainCountAt = omega arith in
-    let main : instrsIn w (cell w mainStartAt) (cell w mainStartAt + cell w mainCountAt - cell w mainStartAt) ≡ (sheetIn w) .main = ap (instrsIn w (cell w mainStartAt)) count ∙ main-is w in
-    ap (λ (is : List Instr). record { objects = []; top = record { own = none; slots = []; code = is }; below = [] }) main
-
-pub able-running : (w : List ℕ) → Able w → Running w (startTop w) startTally
-able-running w a =
+pub able-running : (w : List ℕ) → Ready w → Running w (startTop w) (startTally (cell w deviceCountAt))
+able-running w r =
+    let a : Able w = r .able in
     record {
       accepted = a .accepted;
       located = a .located;
-      sound = subst (Sound (sheetIn w)) (sym (start-is w)) (start-sound (sheetIn w) (a .accepted .whole .sheet) (a .accepted .typed));
+      sound = subst (Sound (sheetIn w)) (sym (start-is w r)) (start-sound (sheetIn w) (a .accepted .whole .sheet) (a .accepted .typed));
       ending = record { frames = omega arith; top = a .accepted .placed .main; below = λ f h. absurd (omega arith) };
     }
 
@@ -79,14 +69,14 @@ pub record Going (w₀ : List ℕ) (budget : ℕ) (w : List ℕ) (t : Top) (k : 
   pub within : k .steps ≤ budget
   pub same : runFrom (sheetIn w) (budget - k .steps) (k .steps) (stateIn (sheetIn w) w t k) ≡ run (sheetIn w₀) budget
 
-pub going-start : (w : List ℕ) (budget : ℕ) → Able w → Going w budget w (startTop w) startTally
+pub going-start : (w : List ℕ) (budget : ℕ) → Ready w → Going w budget w (startTop w) (startTally (cell w deviceCountAt))
 unfolding run
 going-start w budget a =
     record {
       running = able-running w a;
       only = only-refl (objectAddress 0) stateEnd w;
       within = omega arith;
-      same = (let n : budget - 0 ≡ budget = omega arith in λ i. runFrom (sheetIn w) (n i) 0 (start-is w i));
+      same = (let n : budget - 0 ≡ budget = omega arith in λ i. runFrom (sheetIn w) (n i) 0 (start-is w a i));
     }
 
 module _ (w₀ : List ℕ) (budget : ℕ) (w : List ℕ) (t : Top) (k : Tally) (g : Going w₀ budget w t k) where
@@ -130,18 +120,29 @@ module _ (w₀ : List ℕ) (budget : ℕ) (w : List ℕ) (t : Top) (k : Tally) (
   going-ends w′ Move.StoreFull e d = halted w′ (outcomeOf Move.StoreFull) e
   going-ends w′ Move.StackFull e d = halted w′ (outcomeOf Move.StackFull) e
 
--- the sheet's run: its members are located, and then it is run
+-- the sheet's run: its members are located, its devices are put in their places, and then it is run
 
 pub located-able : (w w₁ : List ℕ) → AcceptedIn w → PlacesFilled w w₁ → Able w₁
 located-able w w₁ a p = record { accepted = accepted-same w w₁ (p .only .size) (λ i h. p .only .below i h) a; located = p .located }
 
-pub sheet-run : (w w₁ w′ : List ℕ) (budget : ℕ) (h : Halt) → PlacesFilled w w₁ → SheetRun w₁ budget w′ h → SheetRun w budget w′ h
-sheet-run w w₁ w′ budget h p q =
+pub put-ready : {w w₁ : List ℕ} → Able w → DevicesPut w w₁ → Ready w₁
+put-ready {w} {w₁} a p =
     record {
-      ran = ap (λ (s : Sheet). run s budget) (sym (places-sheet w w₁ (p .only))) ∙ q .ran;
+      able =
+          record {
+            accepted = accepted-same w w₁ (p .only .size) (λ i h. p .only .below i (omega arith)) (a .accepted);
+            located = located-same w w₁ (λ i h. p .only .below i (omega arith)) (a .located);
+          };
+      equipped = p .equipped;
+    }
+
+pub sheet-run : (w w₁ w₂ w′ : List ℕ) (budget : ℕ) (h : Halt) → PlacesFilled w w₁ → DevicesPut w₁ w₂ → SheetRun w₂ budget w′ h → SheetRun w budget w′ h
+sheet-run w w₁ w₂ w′ budget h p d q =
+    record {
+      ran = ap (λ (s : Sheet). run s budget) (sym (sheet-kept w₁ w₂ (d .only) ∙ places-sheet w w₁ (p .only))) ∙ q .ran;
       running = q .running;
       within = q .within;
-      only = only-trans (only-widen (omega arith) (omega arith) (p .only)) (q .only);
+      only = only-trans (only-widen (omega arith) (omega arith) (p .only)) (only-trans (only-widen (omega arith) (omega arith) (d .only)) (q .only));
     }
 
 -- what it answers

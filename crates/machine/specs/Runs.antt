@@ -3,6 +3,7 @@
 use Prim.Native.Nat.{ℕ, suc, _+_, _-_, _≤_, _<_}
 use mathlib.Core.Path.{_≡_}
 use mathlib.Core.List.{List}
+use lib.ListN.{length, getD, set}
 use Rattle.machine_rules.specs.declared.Outcome.{Outcome}
 use Rattle.machine_rules.specs.declared.Outcome.the-variants.{Done, Spent, StoreFull, StackFull}
 use Rattle.machine_rules.specs.declared.Tally.{Tally}
@@ -10,7 +11,7 @@ use Rattle.machine_rules.specs.State.{State}
 use Rattle.machine_rules.specs.Step.{storeFull, stackFull, nextStep}
 use Rattle.machine_rules.specs.declared.RunAnswer.{RunAnswer}
 use Rattle.machine_rules.specs.Steps.{ended, runFrom, run, answerOf}
-use Rattle.table.specs.Layout.{mainStartAt, mainCountAt, tableEnd, stateEnd}
+use Rattle.table.specs.Layout.{mainStartAt, mainCountAt, deviceCountAt, tableEnd, objectAddress, slotAddress, stateEnd}
 use Rattle.table.specs.View.{cell, sheetIn}
 use Rattle.table.specs.Only.{Only}
 use Rattle.accepted.specs.Accepted.{AcceptedIn}
@@ -50,14 +51,37 @@ Moved budget w t k w′ Move.Spent = Ends budget w t k w′ (outcomeOf Move.Spen
 Moved budget w t k w′ Move.StoreFull = Ends budget w t k w′ (outcomeOf Move.StoreFull)
 Moved budget w t k w′ Move.StackFull = Ends budget w t k w′ (outcomeOf Move.StackFull)
 
--- where main's frame stands at the start
+-- where main's frame stands at the start: its first slots have the devices
 abbrev pub startTop : List ℕ → Top
-startTop w = record { own = 0; filled = 0; next = cell w mainStartAt; end = cell w mainStartAt + cell w mainCountAt }
+startTop w = record { own = 0; filled = cell w deviceCountAt; next = cell w mainStartAt; end = cell w mainStartAt + cell w mainCountAt }
 
 -- a buffer that can be run: its sheet was accepted, and its members are located
 pub record Able (w : List ℕ) : Type 0 where
   pub accepted : AcceptedIn w
   pub located : Located w
+
+-- the form of device d
+abbrev pub deviceIn : List ℕ → ℕ → ℕ
+deviceIn w d = getD ((sheetIn w) .devices) d 0
+
+-- device d, put into the store and into main's slot of its number
+abbrev pub devicePut : List ℕ → ℕ → List ℕ
+devicePut w d = set (set w (objectAddress d) (deviceIn w d)) (slotAddress 0 d) d
+
+-- every device is in the store under its number, and in main's slot of its number
+pub record Equipped (w : List ℕ) : Type 0 where
+  pub forms : (d : ℕ) → d < length ((sheetIn w) .devices) → cell w (objectAddress d) ≡ deviceIn w d
+  pub slots : (d : ℕ) → d < length ((sheetIn w) .devices) → cell w (slotAddress 0 d) ≡ d
+
+-- all devices put there; nothing but the state is changed
+pub record DevicesPut (w w′ : List ℕ) : Type 0 where
+  pub equipped : Equipped w′
+  pub only : Only (objectAddress 0) stateEnd w w′
+
+-- a buffer that can be run from here, with its devices in their places
+pub record Ready (w : List ℕ) : Type 0 where
+  pub able : Able w
+  pub equipped : Equipped w
 
 -- the state in which a run halted
 abbrev pub haltedState : List ℕ → Halt → State

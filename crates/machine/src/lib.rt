@@ -6,10 +6,12 @@ ghost use Rattle.machine_rules.specs.State.{lastOf};
 ghost use Rattle.machine_rules.specs.Steps.{ended, valueOf, answerOf};
 ghost use Rattle.table.specs.Told.{newSlots};
 ghost use Rattle.table.specs.View.{sheetIn};
+ghost use Rattle.table.specs.Whole.{Whole};
+ghost use lib.ListN.{length};
 ghost use Rattle.accepted.specs.Accepted.{AcceptedIn};
 ghost use Rattle.machine_state.specs.Held.{slotsIn, stateIn};
 ghost use Rattle.machine_steps.specs.Running.{Running, Facing};
-ghost use Rattle.machine.specs.Runs.{Tried, Moved, Able, startTop, outcomeOf, SheetRun, SheetAnswered};
+ghost use Rattle.machine.specs.Runs.{Tried, Moved, Able, startTop, devicePut, DevicesPut, Ready, outcomeOf, SheetRun, SheetAnswered};
 use machine_rules::Outcome;
 use machine_rules::RunAnswer;
 use machine_rules::Tally;
@@ -129,7 +131,30 @@ fn outcome_of(moved: Move) -> Outcome
     }
 }
 
-// Where main's frame stands at the start.
+// Puts device d into the store, and into main's slot of its number.
+fn put_device(work: &mut [u16], d: usize)
+    requires { ⌜ Whole (now work) × (d < length ((sheetIn (now work)) .devices)) ⌝ }
+    ensures { λ r. ⌜ now (work .exit) ≡ devicePut (now (work .entry)) d ⌝ }
+{
+    let form = table::devices::device_form(work, d);
+    machine_state::put_form(work, d, form);
+    machine_state::put_slot(work, 0, d, narrow(d));
+}
+
+// Puts all devices there.
+fn put_devices(work: &mut [u16])
+    requires { ⌜ Whole (now work) ⌝ }
+    ensures { λ r. ⌜ DevicesPut (now (work .entry)) (now (work .exit)) ⌝ }
+{
+    let count = wide(table::devices::device_count(work));
+    let mut d = 0;
+    while d < count {
+        put_device(work, d);
+        d = d + 1;
+    }
+}
+
+// Where main's frame stands at the start: its first slots have the devices.
 fn start_top(work: &[u16]) -> Top
     requires { ⌜ Able (now work) ⌝ }
     ensures { λ r. ⌜ r ≡ startTop (now (work .entry)) ⌝ }
@@ -137,20 +162,20 @@ fn start_top(work: &[u16]) -> Top
     let start = wide(table::instrs::main_start(work));
     Top {
         own: 0,
-        filled: 0,
+        filled: wide(table::devices::device_count(work)),
         next: start,
         end: start + table::instrs::main_count(work),
     }
 }
 
-// The run within a budget: step after step, until there is none.
+// The run within a budget, from the start: step after step, until there is none.
 fn run(work: &mut [u16], budget: u32) -> Halt
-    requires { ⌜ Able (now work) ⌝ }
+    requires { ⌜ Ready (now work) ⌝ }
     ensures { λ r. ⌜ SheetRun (now (work .entry)) budget (now (work .exit)) r ⌝ }
 {
     let most = budget as usize;
     let mut top = start_top(work);
-    let mut tally = Tally::start();
+    let mut tally = Tally::start(top.filled);
     loop {
         let moved = advance(work, top, tally, most);
         let Move::Taken { top: t, tally: k } = moved else {
@@ -165,12 +190,13 @@ fn run(work: &mut [u16], budget: u32) -> Halt
     }
 }
 
-// The run of the sheet that the buffer holds: its members are located first.
+// The run of the sheet that the buffer holds: its members are located first, and its devices put in their places.
 pub fn run_sheet(work: &mut [u16], budget: u32) -> Halt
     requires { ⌜ AcceptedIn (now work) ⌝ }
     ensures { λ r. ⌜ SheetRun (now (work .entry)) budget (now (work .exit)) r ⌝ }
 {
     machine_places::locate(work);
+    put_devices(work);
     run(work, budget)
 }
 

@@ -7,6 +7,7 @@ pub mod FoundLaws
 pub mod NextSound
 pub mod TakenLaws
 pub mod StoppedLaws
+pub mod StartLaws
 pub mod SoundLaws
 pub mod BoundsLaws
 pub mod ReadyLaws

@@ -1,4 +1,4 @@
--- Computed cases of the run: a sheet that fills the store, one that fills the stack, fields, and the order of the questions.
+-- Computed cases of the run: sheets that fill the store, one that fills the stack, fields, devices, and the order of the questions.
 -- Assumes nothing.
 use Prim.Native.Nat.{ℕ}
 use Prim.Native.String.{String}
@@ -6,7 +6,7 @@ use mathlib.Core.Path.{_≡_, refl}
 use mathlib.Core.List.{List, [], _∷_, _++_, map}
 use lib.ListN.{take, replicate}
 use Rattle.sheet_rules.specs.Answers.{numberOf}
-use Rattle.sheet_rules.specs.Samples.{textOf, withLine, P, L}
+use Rattle.sheet_rules.specs.Samples.{textOf, withLine, P, L, D}
 use Rattle.machine_rules.specs.declared.RunReply.{RunReply}
 use Rattle.machine_rules.specs.Steps.{runReply, outcomeNumber}
 use Rattle.machine_rules.proofs.Opened.{running}
@@ -18,6 +18,14 @@ maker =
     ++ replicate 32 "new=0"
     ++ ("main=10" ∷ "new=0" ∷ "new=1" ∷ [])
     ++ replicate 8 "call=1,1,0"
+
+-- the same with the maker as a device, which counts as one of the 256
+abbrev equipped : List String
+equipped =
+    ("types=2" ∷ "type=0,0" ∷ "type=1,1" ∷ "def=1,0,0" ∷ "forms=2" ∷ "form=0,0" ∷ "form=1,0" ∷ "body=32" ∷ [])
+    ++ replicate 32 "new=0"
+    ++ ("devices=1" ∷ "device=1" ∷ "main=9" ∷ "new=0" ∷ [])
+    ++ replicate 8 "call=0,1,1"
 
 -- object 2 keeps 0 and 1; its field starts as kept value 1, and its method reads the field, sets it to the argument and
 -- gives back what it read
@@ -74,7 +82,15 @@ cases =
     -- a field starts as its kept value, and holds what was put last: the first call gives 1, the second 0
     ∷ within 100 (withLine 16 "main=4" (take 20 swap)) (0 ∷ 8 ∷ 1 ∷ 3 ∷ [])
     ∷ within 100 swap (0 ∷ 13 ∷ 0 ∷ 3 ∷ [])
+    -- devices are objects 0 and 1 at the start; main's instructions fill the slots after theirs
+    ∷ within 0 D (1 ∷ 0 ∷ 65535 ∷ 2 ∷ [])
+    ∷ within 7 D (0 ∷ 7 ∷ 2 ∷ 4 ∷ [])
+    ∷ within 9 (withLine 27 "copy=1" D) (0 ∷ 3 ∷ 1 ∷ 4 ∷ [])
+    -- the store has 256 places, devices included
+    ∷ within 270 equipped (1 ∷ 270 ∷ 65535 ∷ 256 ∷ [])
+    ∷ within 271 equipped (2 ∷ 270 ∷ 65535 ∷ 256 ∷ [])
     -- only an accepted sheet is run
+    ∷ within 8 (withLine 22 "device=0" D) (14 ∷ 22 ∷ [])
     ∷ within 8 (withLine 20 "call=2,3,0" P) (9 ∷ 20 ∷ [])
     ∷ []
 

@@ -1,11 +1,8 @@
 -- Every state after n steps of an accepted sheet is sound, so its next step is never lacking. Assumes nothing.
 use Prim.Native.Nat.{ℕ, zero, suc}
-use native.Mathlib.Omega.{arith}
 use mathlib.Core.Path.{_≡_, refl, subst}
-use mathlib.Core.List.{List, []}
+use mathlib.Core.List.{List}
 use mathlib.Core.Option.{Option, none, some}
-use Rattle.lists.specs.Tab.{tab}
-use Rattle.lists.specs.Pairwise.{Pairwise}
 use Rattle.lists.proofs.Tests.{clash}
 use Rattle.sheet_rules.specs.declared.Verdict.the-variants.{Accepted}
 use Rattle.sheet_rules.specs.Sheet.{Sheet}
@@ -14,12 +11,13 @@ use Rattle.sheet_rules.specs.Reading.{readable, meaning}
 use Rattle.type_rules.specs.Typing.{verdict}
 use Rattle.type_rules.specs.Typed.{Typed}
 use Rattle.type_rules.proofs.TypedLaws.{accepted-sheet}
-use Rattle.machine_rules.specs.State.{State, start}
+use Rattle.machine_rules.specs.State.{State}
 use Rattle.machine_rules.specs.Step.{Action, Next, finished, step, storeFull, stackFull, lacking, nextStep}
 use Rattle.machine_rules.specs.declared.Outcome.{Outcome}
 use Rattle.machine_rules.specs.declared.Outcome.the-variants.{Done, Spent, StoreFull, StackFull}
 use Rattle.machine_rules.specs.Steps.{stateOf, stepFrom, after, run}
-use Rattle.machine_rules.specs.Sound.{main, bottom, Sound}
+use Rattle.machine_rules.specs.Sound.{Sound}
+use Rattle.machine_rules.proofs.StartLaws.{start-sound}
 use Rattle.machine_rules.proofs.StepsLaws.{Why, run-ends}
 use Rattle.machine_rules.proofs.NextLaws.{comes-step, comes-lack}
 use Rattle.machine_rules.proofs.NextSound.{sound-goes}
@@ -33,23 +31,6 @@ stateOf-step stackFull σ e = clash (cc)
 stateOf-step lacking σ e = clash (cc)
 
 module _ (s : Sheet) (w : WellFormed s) (t : Typed s) where
-  -- the start is sound
-  pub start-sound : Sound s (start s)
-  unfolding tab
-  start-sound =
-      record {
-        store = λ o h. absurd (omega arith);
-        own = none;
-        result = none;
-        rows = [];
-        top = record { receives = main; slots = Pairwise.none };
-        code = t .main;
-        room = omega (arith, w .main .few);
-        below = bottom;
-        places = omega arith;
-        height = omega arith;
-      }
-
   -- a step keeps it
   pub step-sound : (σ σ′ : State) (a : Action) → Sound s σ → nextStep s σ ≡ step a σ′ → Sound s σ′
   step-sound σ σ′ a c e = comes-step (sound-goes s w t σ c) e
@@ -57,7 +38,7 @@ module _ (s : Sheet) (w : WellFormed s) (t : Typed s) where
   -- so that every state after n steps is sound
   pub after-sound : (n : ℕ) (σ : State) → after s n ≡ some σ → Sound s σ
   unfolding after
-  after-sound zero σ e = subst (Sound s) (cc) start-sound
+  after-sound zero σ e = subst (Sound s) (cc) (start-sound s w t)
   after-sound (suc n) σ e = go (after s n) (after-sound n) e
     where
       go : (x : Option State) → ((τ : State) → x ≡ some τ → Sound s τ) → stepFrom s x ≡ some σ → Sound s σ

@@ -7,7 +7,7 @@ use mathlib.Core.Bool.{Bool, true, false, cond}
 use mathlib.Core.List.{List, [], _∷_, _++_}
 use mathlib.Core.Option.{Option, none, some}
 use lib.Dec.{ltb}
-use lib.ListN.{length, length-append, length-set}
+use lib.ListN.{length, length-map, length-append, length-set}
 use Rattle.lists.proofs.Tests.{clash}
 use Rattle.sheet_rules.specs.Limits.{storeLimit, stackLimit}
 use Rattle.sheet_rules.specs.Sheet.{Sheet, Instr, new, call, get, put, copy}
@@ -35,8 +35,8 @@ abbrev framesOf : Tally → ℕ
 framesOf t = t .frames
 
 -- the tally that a run starts with counts the state that it starts in
-pub tally-start : (s : Sheet) → tallyOf 0 (start s) ≡ startTally
-tally-start s = refl
+pub tally-start : (s : Sheet) → tallyOf 0 (start s) ≡ startTally (length (s .devices))
+tally-start s = ap (λ (n : ℕ). record { steps = 0; objects = n; frames = 1 }) (length-map (s .devices) (λ f. made s f []))
 
 -- the counts after what comes next, if it is a step, are those that its action makes of the counts before
 pub data Counted (n : ℕ) (σ : State) : Next → Type 0 where
@@ -108,10 +108,10 @@ module _ (s : Sheet) (n : ℕ) (σ : State) where
   unfolding nextStep
   tally-next = tally-code (σ .top .code)
 
--- what the counts are, for every n: the number of objects is the number of creations among the first n steps, and the number of
--- frames is one plus the calls less the returns
+-- what the counts are, for every n: the number of objects is the number of devices plus the creations among the first n steps, and the
+-- number of frames is one plus the calls less the returns
 pub record CountsTaken (s : Sheet) (n : ℕ) (σ : State) : Type 0 where
-  pub objects : length (σ .objects) ≡ amongFirst isCreation s n
+  pub objects : length (σ .objects) ≡ length (s .devices) + amongFirst isCreation s n
   pub frames : frameCount σ + amongFirst isReturn s n ≡ 1 + amongFirst isCall s n
 
 taken-next : (s : Sheet) (n : ℕ) (σ σ′ : State) → CountsTaken s n σ → after s n ≡ some σ → (x : Next) → nextStep s σ ≡ x → Counted n σ x → stateOf x ≡ some σ′
@@ -144,7 +144,7 @@ pub counts-taken : (s : Sheet) (n : ℕ) (σ : State) → after s n ≡ some σ 
 unfolding after amongFirst
 counts-taken s zero σ e =
     let same : start s ≡ σ = cc in
-    subst (CountsTaken s 0) same (record { objects = refl; frames = refl })
+    subst (CountsTaken s 0) same (record { objects = omega (arith, length-map (s .devices) (λ f. made s f [])); frames = refl })
 counts-taken s (suc n) σ e = go (after s n) refl (counts-taken s n) e
   where
     go : (x : Option State) → after s n ≡ x → ((τ : State) → x ≡ some τ → CountsTaken s n τ) → stepFrom s x ≡ some σ → CountsTaken s (suc n) σ

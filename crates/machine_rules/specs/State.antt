@@ -1,10 +1,10 @@
--- The states of the machine (document 01, The machine; The sheet, slots). Stands on the sheet.
+-- The states of the machine (document 01, The machine; The sheet, slots; document 02, order 7). Stands on the sheet.
 use Prim.Native.Nat.{ℕ, suc}
 use mathlib.Core.List.{List, [], _∷_, _++_, map}
 use mathlib.Core.Option.{Option, none}
 use lib.ListN.{length, getD}
 use Rattle.lists.specs.Tab.{tab}
-use Rattle.sheet_rules.specs.Sheet.{Instr, Part, init, body, Sheet, atStart, formAt}
+use Rattle.sheet_rules.specs.Sheet.{Instr, Part, init, body, Sheet, formAt}
 
 -- an object: its form, its kept values, and the values of its row's fields in the row's order (The machine)
 pub record Object : Type 0 where
@@ -46,13 +46,13 @@ initialFields (body is ∷ ps) kept = initialFields ps kept
 abbrev pub made : Sheet → ℕ → List ℕ → Object
 made s f kept = record { form = f; kept = kept; fields = initialFields ((formAt s f) .parts) kept }
 
--- the start: the objects of the forms at the start, none of which keeps a value, and main's frame with their numbers in its first
--- slots; so there is no object, and no slot is filled (The machine)
+-- the start: an object for each device, which keeps no value, and main's frame with their numbers in its first slots; without devices
+-- there is no object, and no slot is filled (The machine; document 02, order 7)
 abbrev pub start : Sheet → State
 start s =
     record {
-      objects = map (λ f. made s f []) atStart;
-      top = record { own = none; slots = tab (λ i. i) (length atStart); code = s .main };
+      objects = map (λ f. made s f []) (s .devices);
+      top = record { own = none; slots = tab (λ i. i) (length (s .devices)); code = s .main };
       below = [];
     }
 

@@ -4,7 +4,7 @@ use mathlib.Core.Bool.{Bool, true, false, cond}
 use mathlib.Core.List.{List}
 use mathlib.Core.Option.{Option, none, some}
 use lib.ListN.{length}
-use Rattle.sheet_rules.specs.Sheet.{Sheet, atStart}
+use Rattle.sheet_rules.specs.Sheet.{Sheet}
 use Rattle.sheet_rules.specs.Reading.{meaning}
 use Rattle.type_rules.specs.Typing.{typing, acceptedOn}
 use Rattle.machine_rules.specs.declared.Outcome.{Outcome}
@@ -86,9 +86,9 @@ tally steps objects frames = record { steps = steps; objects = objects; frames =
 abbrev pub tallyOf : ℕ → State → Tally
 tallyOf n σ = tally n (length (σ .objects)) (frameCount σ)
 
--- the counts at the start: no step, the objects at the start, main's frame (The machine)
-abbrev pub startTally : Tally
-startTally = tally 0 (length atStart) 1
+-- the counts at the start: no step, an object for each device, main's frame (The machine; document 02, order 7)
+abbrev pub startTally : (devices : ℕ) → Tally
+startTally devices = tally 0 devices 1
 
 -- the counts after one step more, which made an object (The machine)
 abbrev pub created : Tally → Tally

@@ -27,13 +27,13 @@ impl Tally {
     // The frames of the stack, main's included.
     pub const STACK: usize = 64;
 
-    // No step taken, no object, and main's frame.
-    pub fn start() -> Tally
-        ensures { λ r. ⌜ r ≡ startTally ⌝ }
+    // No step taken, the devices as objects, and main's frame.
+    pub fn start(devices: usize) -> Tally
+        ensures { λ r. ⌜ r ≡ startTally devices ⌝ }
     {
         Tally {
             steps: 0,
-            objects: 0,
+            objects: devices,
             frames: 1,
         }
     }

@@ -1,4 +1,5 @@
 pub mod EndLaws
 pub mod MainLaws
+pub mod DeviceLaws
 pub mod SheetLaws
 pub mod OnReading

@@ -5,7 +5,7 @@ use mathlib.Core.Path.{_≡_, refl, sym, ap, _∙_, subst}
 use mathlib.Core.List.{List}
 use lib.ListN.{length, drop}
 use lib.Seq.{getD-set-same, getD-set-other}
-use Rattle.lists.proofs.TabLaws.{tab-ext}
+use Rattle.lists.proofs.TabLaws.{length-tab, tab-ext}
 use Rattle.lists.proofs.Tests.{clash}
 use Rattle.sheet_rules.specs.declared.Place.{Place}
 use Rattle.sheet_rules.specs.declared.Reason.{Reason}
@@ -19,8 +19,8 @@ use Rattle.sheet_rules.specs.Reading.{conclude}
 use Rattle.sheet_rules.proofs.ReaderLaws.{gives-one}
 use Rattle.sheet_rules.proofs.FormLinesLaws as Body
 use Rattle.sheet_rules.proofs.FormLinesLaws.{bodyLine-room}
-use Rattle.table.specs.Layout.{rowCountAt, formCountAt, mainStartAt, mainCountAt, instrAddress, tableEnd, workSize}
-use Rattle.table.specs.View.{cell, rowIn, rowsIn, instrsIn, formIn, formsIn, sheetIn}
+use Rattle.table.specs.Layout.{rowCountAt, formCountAt, mainStartAt, mainCountAt, deviceCountAt, deviceAddress, rowAddress, instrAddress, tableEnd, workSize}
+use Rattle.table.specs.View.{cell, rowIn, rowsIn, instrsIn, formIn, formsIn, devicesIn, sheetIn}
 use Rattle.table.specs.Only.{Only}
 use Rattle.table.specs.Pool.{OnlyFrom, FormEnds, Placed}
 use Rattle.table.specs.Ready.{Ready}
@@ -61,17 +61,17 @@ module _ (w : List ℕ) (rows forms start count : ℕ) (size : workSize ≤ leng
 pub counts-size : (w : List ℕ) {w₁ : List ℕ} (rows forms start count : ℕ) → workSize ≤ length w → w₁ ≡ countsPut w rows forms start count → length w₁ ≡ length w
 counts-size w rows forms start count size e = ap length e ∙ (counts-only w rows forms start count size) .size
 
--- a buffer that is changed in its counts alone has rows and forms as they were
-module _ (w w₁ : List ℕ) (o : Only 0 4 w w₁) where
-  counts-row : (i : ℕ) → rowIn w₁ i ≡ rowIn w i
+-- a buffer that is changed below its rows alone has rows and forms as they were
+module _ (w w₁ : List ℕ) (o : Only 0 (rowAddress 0) w w₁) where
+  pub counts-row : (i : ℕ) → rowIn w₁ i ≡ rowIn w i
   counts-row i = row-same w w₁ i (λ k l u. o .above k (omega arith))
 
-  counts-form : (f : ℕ) → formIn w₁ f ≡ formIn w f
+  pub counts-form : (f : ℕ) → formIn w₁ f ≡ formIn w f
   counts-form f =
       form-same w w₁ f (λ k l u. o .above k (omega arith))
       (λ j h. part-same w w₁ f j (λ k l u. o .above k (omega arith)) (λ k l u t. instr-same w w₁ k (λ i a b. o .above i (omega arith))))
 
-  counts-ends : (f p : ℕ) → FormEnds w f p → FormEnds w₁ f p
+  pub counts-ends : (f p : ℕ) → FormEnds w f p → FormEnds w₁ f p
   counts-ends f p e = ends-same w w₁ f p (λ k l u. o .above k (omega arith)) e
 
 -- a refusal is no acceptance
@@ -92,15 +92,25 @@ rest-refused {w′ = w′} ev ex o =
     record { told = ap (λ (y : Verdict). verdictMeans y (sheetIn w′)) ev ∙ sym (ap conclude ex); only = o; placed = not-accepted ev }
 
 module _ {text : List ℕ} {rows forms : ℕ} {from : Cursor} {w : List ℕ} (ready : Ready rows w) (small : forms ≤ 64) (by : FormsUsed w forms (from .used))
-    {p : LineTaken} (told : LineTold Place.Main (from .used) text from p) where
+    (fewDevices : cell w deviceCountAt ≤ 8) {p : LineTaken} (told : LineTold Place.Main (from .used) text from p) where
+  -- the devices that are there, and main's rest with them
+  abbrev pub started : List ℕ
+  started = devicesIn w (cell w deviceCountAt)
+
+  started-length : length started ≡ cell w deviceCountAt
+  started-length = length-tab (λ i. cell w (deviceAddress i)) (cell w deviceCountAt)
+
+  abbrev pub rest : Reader Sheet
+  rest = mainRest (rowsIn w rows) forms (formsIn w forms) started
+
   told-here : lineRead text first p ≡ readFrom text from (one (bodyLine Place.Main (sizeOfForms (formsIn w forms))))
   told-here = told .told ∙ ap (λ (u : ℕ). readFrom text from (one (bodyLine Place.Main u))) (by .counted)
 
   pub main-refused : {q : Reason} {l : ℕ} → p ≡ LineTaken.Refused q l → {s : Progress} → s ≡ stoppedBy p → {v : Verdict} → v ≡ progressVerdict s
-      → RestRead text (mainRest (rowsIn w rows) forms (formsIn w forms)) from w w v
+      → RestRead text rest from w w v
   unfolding mainRest
   main-refused e cs cv =
-      rest-refused (refused-by (cs ∙ ap stoppedBy e) cv) (line-stop text first (instrsRest (rowsIn w rows) forms (formsIn w forms)) told-here e) (only-refl 0 tableEnd w)
+      rest-refused (refused-by (cs ∙ ap stoppedBy e) cv) (line-stop text first (instrsRest (rowsIn w rows) forms (formsIn w forms) started) told-here e) (only-refl 0 tableEnd w)
 
   module _ {k : Place} {ns : Numbers} {next : Cursor} (e : p ≡ LineTaken.Line k ns next) where
     q : Past text from k ns next
@@ -117,13 +127,15 @@ module _ {text : List ℕ} {rows forms : ℕ} {from : Cursor} {w : List ℕ} (re
     pub main-whole : next .used + (ns .n0) ≤ 1024
     main-whole = room-for .whole
 
-    module _ {w₁ : List ℕ} (stored : w₁ ≡ countsPut w rows forms (next .used) (ns .n0)) {number : ℕ} (number-is : number ≡ (ns .n0))
-        {w′ : List ℕ} {r : Progress} (m₁ : InstrsRead text number forms 0 next w₁ w′ r) where
-      m : InstrsRead text (ns .n0) forms 0 next w₁ w′ r
-      m = subst (λ (k : ℕ). InstrsRead text k forms 0 next w₁ w′ r) number-is m₁
+    module _ {w₁ : List ℕ} (stored : w₁ ≡ countsPut w rows forms (next .used) (ns .n0)) {number filled : ℕ} (number-is : number ≡ (ns .n0))
+        (filled-is : filled ≡ cell w deviceCountAt) {w′ : List ℕ} {r : Progress} (m₁ : InstrsRead text number forms filled next w₁ w′ r) where
+      m : InstrsRead text (ns .n0) forms (length started) next w₁ w′ r
+      m =
+          subst (λ (k : ℕ). InstrsRead text k forms (length started) next w₁ w′ r) number-is
+          (subst (λ (k : ℕ). InstrsRead text number forms k next w₁ w′ r) (filled-is ∙ sym started-length) m₁)
 
-      head-only : Only 0 4 w w₁
-      head-only = subst (Only 0 4 w) (sym stored) (counts-only w rows forms (next .used) (ns .n0) (ready .size))
+      head-only : Only 0 (rowAddress 0) w w₁
+      head-only = subst (Only 0 (rowAddress 0) w) (sym stored) (only-widen (omega arith) (omega arith) (counts-only w rows forms (next .used) (ns .n0) (ready .size)))
 
       pool-from : OnlyFrom (instrAddress 0) (next .used) w₁ w′
       pool-from = instrs→from (next .used) (ns .n0) (omega arith) (room-for .some) (room-for .whole) (m .only)
@@ -133,15 +145,15 @@ module _ {text : List ℕ} {rows forms : ℕ} {from : Cursor} {w : List ℕ} (re
           only-trans (only-widen (omega arith) (omega arith) head-only)
           (only-widen (omega arith) (let a = room-for .some in let b = room-for .whole in omega arith) (m .only))
 
-      told-main : readFrom text from (mainRest (rowsIn w rows) forms (formsIn w forms))
-          ≡ andThen (readFrom text next (readInstrs forms 0 (ns .n0))) (endRest (rowsIn w rows) (formsIn w forms))
+      told-main : readFrom text from rest
+          ≡ andThen (readFrom text next (readInstrs forms (length started) (ns .n0))) (endRest (rowsIn w rows) (formsIn w forms) started)
       unfolding mainRest instrsRest
-      told-main = line-then text first (instrsRest (rowsIn w rows) forms (formsIn w forms)) told-here e
+      told-main = line-then text first (instrsRest (rowsIn w rows) forms (formsIn w forms) started) told-here e
 
       pub instrs-refused : {q : Reason} {l : ℕ} → r ≡ Progress.Refused q l → {v : Verdict} → v ≡ progressVerdict r
-          → RestRead text (mainRest (rowsIn w rows) forms (formsIn w forms)) from w w′ v
+          → RestRead text rest from w w′ v
       instrs-refused c cv =
-          rest-refused (refused-by c cv) (told-main ∙ moved-stop text (endRest (rowsIn w rows) (formsIn w forms)) (instrsIn w′ (next .used) (ns .n0)) (m .told) c) main-only
+          rest-refused (refused-by c cv) (told-main ∙ moved-stop text (endRest (rowsIn w rows) (formsIn w forms) started) (instrsIn w′ (next .used) (ns .n0)) (m .told) c) main-only
 
       -- the sheet that the table holds
       cell-kept : (k : ℕ) → k < 16 → cell w′ k ≡ cell (countsPut w rows forms (next .used) (ns .n0)) k
@@ -155,12 +167,21 @@ module _ {text : List ℕ} {rows forms : ℕ} {from : Cursor} {w : List ℕ} (re
           tab-ext (formIn w′) (formIn w) forms
           (λ k h. form-kept (instrAddress 0) (next .used) w₁ w′ pool-from (q .room .pool) k (omega arith) (counts-ends w w₁ head-only k (next .used) (used-by .ends k h)) ∙ counts-form w w₁ head-only k)
 
-      sheet-there : sheetIn w′ ≡ record { rows = rowsIn w rows; forms = formsIn w forms; main = instrsIn w′ (next .used) (ns .n0) }
+      device-kept : (k : ℕ) → 4 ≤ k → k < 16 → cell w′ k ≡ cell w k
+      device-kept k l h = cell-kept k h ∙ (counts-only w rows forms (next .used) (ns .n0) (ready .size)) .above k l
+
+      devices-there : devicesIn w′ (cell w′ deviceCountAt) ≡ started
+      devices-there =
+          ap (devicesIn w′) (device-kept deviceCountAt (omega arith) (omega arith))
+          ∙ tab-ext (λ i. cell w′ (deviceAddress i)) (λ i. cell w (deviceAddress i)) (cell w deviceCountAt) (λ i h. device-kept (deviceAddress i) (omega arith) (omega arith))
+
+      sheet-there : sheetIn w′ ≡ record { rows = rowsIn w rows; forms = formsIn w forms; devices = started; main = instrsIn w′ (next .used) (ns .n0) }
       unfolding sheetIn
       sheet-there =
           λ x. record {
             rows = (ap (rowsIn w′) (cell-kept rowCountAt (omega arith) ∙ count-0 w rows forms (next .used) (ns .n0) (ready .size)) ∙ rows-there) x;
             forms = (ap (formsIn w′) (cell-kept formCountAt (omega arith) ∙ count-1 w rows forms (next .used) (ns .n0) (ready .size)) ∙ forms-there) x;
+            devices = devices-there x;
             main =
                 instrsIn w′ ((cell-kept mainStartAt (omega arith) ∙ count-2 w rows forms (next .used) (ns .n0) (ready .size)) x)
                 ((cell-kept mainCountAt (omega arith) ∙ count-3 w rows forms (next .used) (ns .n0) (ready .size)) x);
@@ -182,18 +203,18 @@ module _ {text : List ℕ} {rows forms : ℕ} {from : Cursor} {w : List ℕ} (re
           count = cell-kept formCountAt (omega arith) ∙ count-1 w rows forms (next .used) (ns .n0) (ready .size)
 
       module _ {to : Cursor} (moved : r ≡ Progress.Moved to) where
-        told-end : readFrom text from (mainRest (rowsIn w rows) forms (formsIn w forms)) ≡ readFrom text to (endRest (rowsIn w rows) (formsIn w forms) (instrsIn w′ (next .used) (ns .n0)))
-        told-end = told-main ∙ moved-then text (endRest (rowsIn w rows) (formsIn w forms)) (instrsIn w′ (next .used) (ns .n0)) (m .told) moved
+        told-end : readFrom text from rest ≡ readFrom text to (endRest (rowsIn w rows) (formsIn w forms) started (instrsIn w′ (next .used) (ns .n0)))
+        told-end = told-main ∙ moved-then text (endRest (rowsIn w rows) (formsIn w forms) started) (instrsIn w′ (next .used) (ns .n0)) (m .told) moved
 
-        pub after-main : to .at < length text → RestRead text (mainRest (rowsIn w rows) forms (formsIn w forms)) from w w′ (Verdict.Refused Malformed (to .line))
+        pub after-main : to .at < length text → RestRead text rest from w w′ (Verdict.Refused Malformed (to .line))
         unfolding endRest
         after-main h =
             rest-refused refl
             (told-end
-            ∙ then-stop _ (λ end. give (record { rows = rowsIn w rows; forms = formsIn w forms; main = instrsIn w′ (next .used) (ns .n0) })) Malformed (to .line) (sym (not-at-end text (to .at) (to .line) h)))
+            ∙ then-stop _ (λ end. give (record { rows = rowsIn w rows; forms = formsIn w forms; devices = started; main = instrsIn w′ (next .used) (ns .n0) })) Malformed (to .line) (sym (not-at-end text (to .at) (to .line) h)))
             main-only
 
-        pub main-read : length text ≤ to .at → RestRead text (mainRest (rowsIn w rows) forms (formsIn w forms)) from w w′ Verdict.Accepted
+        pub main-read : length text ≤ to .at → RestRead text rest from w w′ Verdict.Accepted
         unfolding endRest andThen
         main-read h =
             record {
@@ -201,7 +222,7 @@ module _ {text : List ℕ} {rows forms : ℕ} {from : Cursor} {w : List ℕ} (re
                   ap (verdictMeans Verdict.Accepted) sheet-there
                   ∙ sym (ap conclude
                   (told-end
-                  ∙ ap (λ x. andThen x (λ end. give (record { rows = rowsIn w rows; forms = formsIn w forms; main = instrsIn w′ (next .used) (ns .n0) }))) (at-end text (to .at) (to .line) h)));
+                  ∙ ap (λ x. andThen x (λ end. give (record { rows = rowsIn w rows; forms = formsIn w forms; devices = started; main = instrsIn w′ (next .used) (ns .n0) }))) (at-end text (to .at) (to .line) h)));
               only = main-only;
               placed = λ e. all-placed;
             }

@@ -1,4 +1,4 @@
--- Reading a whole sheet: rows, then forms, then main; a law for each exit. Assumes nothing.
+-- Reading a whole sheet: rows, then forms, then devices and main; a law for each exit. Assumes nothing.
 use Prim.Native.Nat.{ℕ, _≤_, _<_}
 use native.Mathlib.Omega.{arith}
 use mathlib.Core.Path.{_≡_, refl, sym, ap, _∙_, subst}
@@ -21,9 +21,9 @@ use Rattle.sheet_rules.specs.RowLines.{readRow}
 use Rattle.sheet_rules.specs.FormLines.{readForm}
 use Rattle.sheet_rules.specs.WellFormed.{WellFormed}
 use Rattle.sheet_rules.specs.Reading.{unreadable, readSheet, conclude, meaning}
-use Rattle.sheet_rules.proofs.ReaderLaws.{Gives, its-got, gives-one}
+use Rattle.sheet_rules.proofs.ReaderLaws.{Gives, its-got, gives-one, countLine-within}
 use Rattle.sheet_rules.proofs.RowLinesLaws.{WellFormedRows, readRows-wellFormed}
-use Rattle.sheet_rules.proofs.ReadingLaws.{countLine-within, readable-wellFormed}
+use Rattle.sheet_rules.proofs.ReadingLaws.{readable-wellFormed}
 use Rattle.table.specs.Layout.{formAddress, tableEnd, workSize}
 use Rattle.table.specs.View.{rowIn, rowsIn, formsIn, sheetIn}
 use Rattle.table.specs.Only.{Only}
@@ -39,10 +39,10 @@ use Rattle.reader_loop.proofs.LoopLaws.{moved-on}
 use Rattle.reader_loop.proofs.ThenLaws.{past, line-then, line-stop, line-gives, moved-then, moved-stop}
 use Rattle.row_reader.specs.Reads.{RowsRead}
 use Rattle.form_reader.specs.Reads.{FormsUsed, FormsRead}
-use Rattle.reader.specs.Reads.{progressVerdict, textStart, verdictMeans, endRest, instrsRest, mainRest, formsRest, rowsRest, RestRead, SheetRead}
+use Rattle.reader.specs.Reads.{progressVerdict, textStart, verdictMeans, endRest, instrsRest, mainRest, devicesRest, formsRest, rowsRest, RestRead, SheetRead}
 use Rattle.reader.proofs.MainLaws.{not-accepted, refused-by, rest-refused}
 
--- FORMS AND MAIN
+-- FORMS, THEN DEVICES AND MAIN
 
 module _ {text : List ℕ} {rows : ℕ} {from : Cursor} {w : List ℕ} (ready : Ready rows w) {b : ℕ} {p : LineTaken} (told : LineTold Place.Forms b text from p) where
   pub forms-line-refused : {q : Reason} {l : ℕ} → p ≡ LineTaken.Refused q l → {s : Progress} → s ≡ stoppedBy p → {v : Verdict} → v ≡ progressVerdict s
@@ -56,7 +56,7 @@ module _ {text : List ℕ} {rows : ℕ} {from : Cursor} {w : List ℕ} (ready : 
         (line-gives text number (told .told) e (λ k. (0 ≤ k) × (k ≤ 64))
         (gives-one (λ k. (0 ≤ k) × (k ≤ 64)) (countLine Place.Forms 0 64) (countLine-within Place.Forms 0 64) (linesOf (drop (from .at) text)) (from .line))) .1
 
-    told-forms : readFrom text from (rowsRest (rowsIn w rows)) ≡ andThen (readFrom text next (many (ns .n0) (readForm (rowsIn w rows) (ns .n0)) [])) (mainRest (rowsIn w rows) (ns .n0))
+    told-forms : readFrom text from (rowsRest (rowsIn w rows)) ≡ andThen (readFrom text next (many (ns .n0) (readForm (rowsIn w rows) (ns .n0)) [])) (devicesRest (rowsIn w rows) (ns .n0))
     unfolding rowsRest formsRest
     told-forms = line-then text number (formsRest (rowsIn w rows)) (told .told) e
 
@@ -66,7 +66,7 @@ module _ {text : List ℕ} {rows : ℕ} {from : Cursor} {w : List ℕ} (ready : 
 
       pub forms-refused : {q : Reason} {l : ℕ} → r ≡ Progress.Refused q l → {v : Verdict} → v ≡ progressVerdict r → RestRead text (rowsRest (rowsIn w rows)) from w w₁ v
       forms-refused c cv =
-          rest-refused (refused-by c cv) (told-forms ∙ moved-stop text (mainRest (rowsIn w rows) (ns .n0)) (formsIn w₁ (ns .n0)) (m .read .told) c) forms-only
+          rest-refused (refused-by c cv) (told-forms ∙ moved-stop text (devicesRest (rowsIn w rows) (ns .n0)) (formsIn w₁ (ns .n0)) (m .read .told) c) forms-only
 
       pub forms-ready : Ready rows w₁
       forms-ready = ready-kept rows (formAddress 0) tableEnd w w₁ (omega arith) (m .read .only) ready
@@ -78,13 +78,13 @@ module _ {text : List ℕ} {rows : ℕ} {from : Cursor} {w : List ℕ} (ready : 
         pub forms-used : FormsUsed w₁ (ns .n0) (to .used)
         forms-used = record { counted = (moved-on moved (m .read .advanced)) .pool; ends = m .ends to moved }
 
-        pub forms-main : {w′ : List ℕ} {v : Verdict} → RestRead text (mainRest (rowsIn w₁ rows) (ns .n0) (formsIn w₁ (ns .n0))) to w₁ w′ v → RestRead text (rowsRest (rowsIn w rows)) from w w′ v
-        forms-main k =
+        pub forms-after : {w′ : List ℕ} {v : Verdict} → RestRead text (devicesRest (rowsIn w₁ rows) (ns .n0) (formsIn w₁ (ns .n0))) to w₁ w′ v → RestRead text (rowsRest (rowsIn w rows)) from w w′ v
+        forms-after k =
             record {
               told =
                   k .told
-                  ∙ ap (λ (rs : List Row). conclude (readFrom text to (mainRest rs (ns .n0) (formsIn w₁ (ns .n0))))) rows-same
-                  ∙ sym (ap conclude (told-forms ∙ moved-then text (mainRest (rowsIn w rows) (ns .n0)) (formsIn w₁ (ns .n0)) (m .read .told) moved));
+                  ∙ ap (λ (rs : List Row). conclude (readFrom text to (devicesRest rs (ns .n0) (formsIn w₁ (ns .n0))))) rows-same
+                  ∙ sym (ap conclude (told-forms ∙ moved-then text (devicesRest (rowsIn w rows) (ns .n0)) (formsIn w₁ (ns .n0)) (m .read .told) moved));
               only = only-trans forms-only (k .only);
               placed = k .placed;
             }
@@ -93,7 +93,7 @@ module _ {text : List ℕ} {rows : ℕ} {from : Cursor} {w : List ℕ} (ready : 
 
 sheet-rest : (ls : List Line) (n : ℕ)
     → readSheet ls n ≡ andThen (one (countLine Place.Types 1 64) ls n) (λ t ls n. andThen (many t readRow [] ls n) rowsRest)
-unfolding readSheet rowsRest formsRest mainRest instrsRest endRest
+unfolding readSheet rowsRest formsRest devicesRest mainRest instrsRest endRest
 sheet-rest ls n = refl
 
 module _ {text : List ℕ} (w : List ℕ) (size : workSize ≤ length w) {b : ℕ} {p : LineTaken} (told : LineTold Place.Types b text textStart p) where

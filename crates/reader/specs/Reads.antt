@@ -12,6 +12,7 @@ use Rattle.sheet_rules.specs.Limits.{formLimit}
 use Rattle.sheet_rules.specs.Sheet.{Row, Instr, Form, Sheet, sizeOfForms}
 use Rattle.sheet_rules.specs.Reader.{Reader, _>>=_, give, one, many, countLine}
 use Rattle.sheet_rules.specs.FormLines.{bodyLine, readInstrs, readForm}
+use Rattle.sheet_rules.specs.DeviceLines.{readDevices}
 use Rattle.sheet_rules.specs.Reading.{Meaning, readable, unreadable, readEnd, conclude, meaning}
 use Rattle.table.specs.Layout.{tableEnd, workSize}
 use Rattle.table.specs.View.{sheetIn}
@@ -35,18 +36,21 @@ abbrev pub verdictMeans : Verdict → Sheet → Meaning
 verdictMeans Verdict.Accepted s = readable s
 verdictMeans (Verdict.Refused r n) s = unreadable r n
 
--- the rule's reader of a sheet: what is left of it after main's instructions, the `main` line, the forms, the rows
-unfoldable pub endRest : List Row → List Form → List Instr → Reader Sheet
-endRest rows forms main = readEnd >>= λ end. give (record { rows = rows; forms = forms; main = main })
+-- the rule's reader of a sheet: what is left of it after main's instructions, the `main` line, the devices, the forms, the rows
+unfoldable pub endRest : List Row → List Form → List ℕ → List Instr → Reader Sheet
+endRest rows forms devices main = readEnd >>= λ end. give (record { rows = rows; forms = forms; devices = devices; main = main })
 
-unfoldable pub instrsRest : List Row → ℕ → List Form → ℕ → Reader Sheet
-instrsRest rows f forms i = readInstrs f 0 i >>= endRest rows forms
+unfoldable pub instrsRest : List Row → ℕ → List Form → List ℕ → ℕ → Reader Sheet
+instrsRest rows f forms devices i = readInstrs f (length devices) i >>= endRest rows forms devices
 
-unfoldable pub mainRest : List Row → ℕ → List Form → Reader Sheet
-mainRest rows f forms = one (bodyLine Place.Main (sizeOfForms forms)) >>= instrsRest rows f forms
+unfoldable pub mainRest : List Row → ℕ → List Form → List ℕ → Reader Sheet
+mainRest rows f forms devices = one (bodyLine Place.Main (sizeOfForms forms)) >>= instrsRest rows f forms devices
+
+unfoldable pub devicesRest : List Row → ℕ → List Form → Reader Sheet
+devicesRest rows f forms = readDevices f >>= mainRest rows f forms
 
 unfoldable pub formsRest : List Row → ℕ → Reader Sheet
-formsRest rows f = many f (readForm rows f) [] >>= mainRest rows f
+formsRest rows f = many f (readForm rows f) [] >>= devicesRest rows f
 
 unfoldable pub rowsRest : List Row → Reader Sheet
 rowsRest rows = one (countLine Place.Forms 0 formLimit) >>= formsRest rows

@@ -5,11 +5,11 @@ ghost use Prim.Native.Nat.{_≤_, _<_};
 ghost use lib.ListN.{length};
 ghost use Rattle.sheet_rules.specs.Reading.{readSheet};
 ghost use Rattle.line_reader.specs.Told.{Room};
-ghost use Rattle.table.specs.Layout.{workSize};
+ghost use Rattle.table.specs.Layout.{deviceCountAt, workSize};
 ghost use Rattle.table.specs.Ready.{Ready};
-ghost use Rattle.table.specs.View.{rowsIn, formsIn};
+ghost use Rattle.table.specs.View.{cell, rowsIn, formsIn, devicesIn};
 ghost use Rattle.form_reader.specs.Reads.{FormsUsed};
-ghost use Rattle.reader.specs.Reads.{progressVerdict, textStart, mainRest, rowsRest, RestRead, SheetRead};
+ghost use Rattle.reader.specs.Reads.{progressVerdict, textStart, mainRest, devicesRest, rowsRest, RestRead, SheetRead};
 use line_reader::Cursor;
 use line_reader::LineTaken;
 use line_reader::Progress;
@@ -28,18 +28,19 @@ fn progress_verdict(read: Progress) -> Verdict
     }
 }
 
-// Main, to the text's end, in a sheet of `rows` rows and of `forms` forms.
+// Main, to the text's end, in a sheet of `rows` rows and of `forms` forms, after its devices.
 fn read_main(text: &[u8], work: &mut [u16], rows: u16, forms: u16, from: Cursor) -> Verdict
-    requires { ⌜ Room (now text) from × (forms ≤ 64) × Ready rows (now work) × FormsUsed (now work) forms (from .used) ⌝ }
-    ensures { λ r. ⌜ RestRead (now (text .entry)) (mainRest (rowsIn (now (work .entry)) rows) forms (formsIn (now (work .entry)) forms)) from (now (work .entry)) (now (work .exit)) r ⌝ }
+    requires { ⌜ Room (now text) from × (forms ≤ 64) × Ready rows (now work) × FormsUsed (now work) forms (from .used) × (cell (now work) deviceCountAt ≤ 8) ⌝ }
+    ensures { λ r. ⌜ RestRead (now (text .entry)) (mainRest (rowsIn (now (work .entry)) rows) forms (formsIn (now (work .entry)) forms) (devicesIn (now (work .entry)) (cell (now (work .entry)) deviceCountAt))) from (now (work .entry)) (now (work .exit)) r ⌝ }
 {
     let head = line_reader::take_line(text, from, Place::Main, from.used as u32);
     let LineTaken::Line { place: _, ns, next } = head else {
         return progress_verdict(line_reader::stopped(head));
     };
     let count = ns.n0;
+    let filled = table::devices::device_count(work);
     table::stores::put_counts(work, rows, forms, next.used, count);
-    let body = instr_reader::read_instrs(text, work, wide(count), forms, 0, next);
+    let body = instr_reader::read_instrs(text, work, wide(count), forms, filled, next);
     let Progress::Moved { to } = body else {
         return progress_verdict(body);
     };
@@ -52,7 +53,23 @@ fn read_main(text: &[u8], work: &mut [u16], rows: u16, forms: u16, from: Cursor)
     Verdict::Accepted
 }
 
-// Forms and main, from the `forms` line on, in a sheet of `rows` rows.
+// Devices and main, in a sheet of `rows` rows and of `forms` forms. Where the next line is no `devices` line, there are none.
+fn read_after_forms(text: &[u8], work: &mut [u16], rows: u16, forms: u16, from: Cursor) -> Verdict
+    requires { ⌜ Room (now text) from × (forms ≤ 64) × Ready rows (now work) × FormsUsed (now work) forms (from .used) ⌝ }
+    ensures { λ r. ⌜ RestRead (now (text .entry)) (devicesRest (rowsIn (now (work .entry)) rows) forms (formsIn (now (work .entry)) forms)) from (now (work .entry)) (now (work .exit)) r ⌝ }
+{
+    if !line_reader::is_next(text, from, Place::Devices) {
+        table::devices::put_device_count(work, 0);
+        return read_main(text, work, rows, forms, from);
+    }
+    let read = number_reader::read_devices(text, work, forms, from);
+    let Progress::Moved { to } = read else {
+        return progress_verdict(read);
+    };
+    read_main(text, work, rows, forms, to)
+}
+
+// Forms, devices and main, from the `forms` line on, in a sheet of `rows` rows.
 fn read_after_rows(text: &[u8], work: &mut [u16], rows: u16, from: Cursor) -> Verdict
     requires { ⌜ Room (now text) from × (from .used ≡ 0) × Ready rows (now work) ⌝ }
     ensures { λ r. ⌜ RestRead (now (text .entry)) (rowsRest (rowsIn (now (work .entry)) rows)) from (now (work .entry)) (now (work .exit)) r ⌝ }
@@ -66,7 +83,7 @@ fn read_after_rows(text: &[u8], work: &mut [u16], rows: u16, from: Cursor) -> Ve
     let Progress::Moved { to } = read else {
         return progress_verdict(read);
     };
-    read_main(text, work, rows, forms, to)
+    read_after_forms(text, work, rows, forms, to)
 }
 
 // A whole sheet, from its `types` line on.

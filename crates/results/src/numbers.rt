@@ -24,6 +24,7 @@ pub fn number_of(reason: Reason) -> u32
         Reason::NoHolder => 11,
         Reason::CircularCall => 12,
         Reason::BeyondCount => 13,
+        Reason::WrongDevice => 14,
     }
 }
 

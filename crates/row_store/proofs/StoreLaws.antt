@@ -9,7 +9,7 @@ use lib.Seq.{getD-set-same, getD-set-other}
 use Rattle.sheet_rules.specs.declared.Member.the-variants.{Method, Field}
 use Rattle.sheet_rules.specs.declared.MemberKind.{MemberKind}
 use Rattle.sheet_rules.specs.declared.Place.{Place}
-use Rattle.sheet_rules.specs.declared.Place.the-variants.{Types, Row, Member, Forms, Form, Keep, Init, Body, Main, Instruction, Nowhere}
+use Rattle.sheet_rules.specs.declared.Place.the-variants.{Types, Row, Member, Forms, Form, Keep, Init, Body, Devices, Device, Main, Instruction, Nowhere}
 use Rattle.sheet_rules.specs.Keys.{samePlace, memberKind}
 use Rattle.sheet_rules.specs.RowLines.{memberOf}
 use Rattle.lexer.specs.declared.Numbers.{Numbers}
@@ -92,6 +92,8 @@ member-from k ns s = go k (s .fitting) (subst T (sym (s .member)) tt)
     go Keep h t = absurd t
     go Init h t = absurd t
     go Body h t = absurd t
+    go Devices h t = absurd t
+    go Device h t = absurd t
     go Main h t = absurd t
     go (Instruction operation) h t = absurd t
     go Nowhere h t = absurd t

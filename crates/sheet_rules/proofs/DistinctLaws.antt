@@ -19,6 +19,7 @@ use Rattle.sheet_rules.specs.Sheet.{Row, Sheet, noRow, rowAt, sizeOfForm
 use Rattle.sheet_rules.specs.Reader.{nth, one, many, countLine}
 use Rattle.sheet_rules.specs.RowLines.{kindOf, Heading, twin, memberOf, rowLine, memberLine, readRow}
 use Rattle.sheet_rules.specs.FormLines.{bodyLine, readInstrs, readForm}
+use Rattle.sheet_rules.specs.DeviceLines.{readDevices}
 use Rattle.sheet_rules.specs.Reading.{readEnd, readSheet, readable, meaning}
 use Rattle.sheet_rules.specs.WellFormed.{DistinctRows}
 use Rattle.sheet_rules.proofs.ReaderLaws.{Judges, its-good, Gives, its-got, gives-any, judges-demand, gives-one, gives-then, gives-map, gives-many}
@@ -98,9 +99,10 @@ sheet-distinct ls n =
     gives-then DistinctRows P _ _ (rows-distinct t ls n) (λ rows d ls n.
     gives-then (λ _. Unit {0}) P _ _ (gives-any (one (countLine Place.Forms 0 formLimit) ls n)) (λ f _ ls n.
     gives-then (λ _. Unit {0}) P _ _ (gives-any (many f (readForm rows f) [] ls n)) (λ forms _ ls n.
+    gives-then (λ _. Unit {0}) P _ _ (gives-any (readDevices f ls n)) (λ devices _ ls n.
     gives-then (λ _. Unit {0}) P _ _ (gives-any (one (bodyLine Place.Main (sizeOfForms forms)) ls n)) (λ i _ ls n.
-    gives-then (λ _. Unit {0}) P _ _ (gives-any (readInstrs f 0 i ls n)) (λ main _ ls n.
-    gives-then (λ _. Unit {0}) P _ _ (gives-any (readEnd ls n)) (λ _ _ ls n. its-got d)))))))
+    gives-then (λ _. Unit {0}) P _ _ (gives-any (readInstrs f (length devices) i ls n)) (λ main _ ls n.
+    gives-then (λ _. Unit {0}) P _ _ (gives-any (readEnd ls n)) (λ _ _ ls n. its-got d))))))))
   where
     P : Sheet → Type 0
     P s = DistinctRows (s .rows)

@@ -25,16 +25,7 @@ use Rattle.sheet_rules.specs.Reader.{Reader, nth, within, existingLine, 
 use Rattle.sheet_rules.specs.FormLines.{FormHeading, formLine, bodyLine, instrOf, allBelow, instrLine, readInstrs, readPart, readForm}
 use Rattle.sheet_rules.specs.WellFormed.{WellFormedInstr, Scoped, end, next, PartOf, field, method, WellFormedForm}
 use Rattle.sheet_rules.proofs.KeysLaws.{most-nine}
-use Rattle.sheet_rules.proofs.ReaderLaws.{Judges, its-good, Gives, its-got, judges-demand, gives-one, gives-then, gives-map, gives-many}
-
--- a number that counts something there
-pub existingLine-below : (wanted : Place) (bound : ℕ) (k : Place) (ns : List ℕ) → Judges (λ m. m < bound) (existingLine wanted bound k ns)
-unfolding existingLine
-existingLine-below wanted bound k ns =
-    judges-demand P _ _ _ (λ _. judges-demand P _ _ _ (λ t. its-good (ltb→lt (nth ns 0) bound t)))
-  where
-    P : ℕ → Type 0
-    P m = m < bound
+use Rattle.sheet_rules.proofs.ReaderLaws.{Judges, its-good, Gives, its-got, judges-demand, gives-one, gives-then, gives-map, gives-many, existingLine-below, ThereSoFar, gives-there}
 
 -- BODIES
 
@@ -176,21 +167,6 @@ readParts-of forms keeps used members ls n =
 
 -- FORMS
 
--- the kept rows so far, with k to come of a count in all
-record KeepsSoFar (rows count k : ℕ) (keeps : List ℕ) : Type 0 where
-  there : (a : ℕ) → In a keeps → a < rows
-  counted : length keeps + k ≡ count
-
-keeps-keep : (rows count k : ℕ) (before : List ℕ) → KeepsSoFar rows count (suc k) before → (b : ℕ) → b < rows → KeepsSoFar rows count k (before ++ (b ∷ []))
-keeps-keep rows count k before c b h = record { there = each; counted = rw length-append (omega arith) }
-  where
-    each : (a : ℕ) → In a (before ++ (b ∷ [])) → a < rows
-    each a i = go (in-snoc before i)
-      where
-        go : In a before ⊎ (a ≡ b) → a < rows
-        go (inl j) = c .there a j
-        go (inr e) = omega arith
-
 -- a form's heading: its row is there, and it keeps few values
 pub record HeadingOk (rows : ℕ) (h : FormHeading) : Type 0 where
   pub row : h .row < rows
@@ -208,11 +184,8 @@ unfolding readForm
 readForm-wellFormed rows forms earlier ls n =
     gives-then (HeadingOk (length rows)) P _ _
     (gives-one (HeadingOk (length rows)) (formLine (length rows)) (formLine-ok (length rows)) ls n) (λ h ok ls n.
-    gives-then (KeepsSoFar (length rows) (h .count) 0) P _ _
-    (gives-many (KeepsSoFar (length rows) (h .count)) (λ before. one (existingLine Place.Keep (length rows)))
-    (λ k before c ls n. gives-map (keeps-keep (length rows) (h .count) k before c) _
-    (gives-one (λ b. b < length rows) (existingLine Place.Keep (length rows)) (existingLine-below Place.Keep (length rows)) ls n))
-    (h .count) [] (record { there = λ a i. absurd (in-nil i); counted = omega arith }) ls n) (λ keeps c ls n.
+    gives-then (ThereSoFar (length rows) (h .count) 0) P _ _
+    (gives-there Place.Keep (length rows) (h .count) ls n) (λ keeps c ls n.
     gives-then (Pairwise (PartOf forms (length keeps)) ((rowAt rows (h .row)) .members)) P _ _
     (readParts-of forms (length keeps) (λ before. sizeOfForms earlier + sizeOfParts before) ((rowAt rows (h .row)) .members) ls n)
     (λ parts p ls n. its-got (record { row = ok .row; keeps = c .there; few = omega (arith, ok .few, c .counted); parts = p }))))

@@ -11,7 +11,7 @@ use Rattle.sheet_rules.specs.declared.Operation.{Operation}
 use Rattle.sheet_rules.specs.declared.MemberKind.the-variants.{Method, Field}
 use Rattle.sheet_rules.specs.declared.Operation.the-variants.{New, Call, Get, Put, Copy}
 use Rattle.sheet_rules.specs.declared.Place.{Place}
-use Rattle.sheet_rules.specs.declared.Place.the-variants.{Types, Row, Member, Forms, Form, Keep, Init, Body, Main, Instruction, Nowhere}
+use Rattle.sheet_rules.specs.declared.Place.the-variants.{Types, Row, Member, Forms, Form, Keep, Init, Body, Devices, Device, Main, Instruction, Nowhere}
 use Rattle.sheet_rules.specs.Keys.{countOf, placeNumber, samePlace, takes, stands, memberKind, operationOf}
 
 -- the two tests at once, a line for each key
@@ -25,6 +25,8 @@ counts-within Form = tt
 counts-within Keep = tt
 counts-within Init = tt
 counts-within Body = tt
+counts-within Devices = tt
+counts-within Device = tt
 counts-within Main = tt
 counts-within (Instruction New) = tt
 counts-within (Instruction Call) = tt
@@ -43,7 +45,7 @@ most-nine k = leb→le ((countOf k) .most) 9 (and-right (leb 1 ((countOf k) .few
 
 -- a place by its number, and by the kind of member and the operation that tell its keys apart
 abbrev pub placeFrom : MemberKind → Operation → ℕ → Place
-placeFrom m o n = getD (Types ∷ Row ∷ Member m ∷ Forms ∷ Form ∷ Keep ∷ Init ∷ Body ∷ Main ∷ Instruction o ∷ []) n Nowhere
+placeFrom m o n = getD (Types ∷ Row ∷ Member m ∷ Forms ∷ Form ∷ Keep ∷ Init ∷ Body ∷ Devices ∷ Device ∷ Main ∷ Instruction o ∷ []) n Nowhere
 
 place-from : (k : Place) → placeFrom (memberKind k) (operationOf k) (placeNumber k) ≡ k
 place-from Types = refl
@@ -54,6 +56,8 @@ place-from Form = refl
 place-from Keep = refl
 place-from Init = refl
 place-from Body = refl
+place-from Devices = refl
+place-from Device = refl
 place-from Main = refl
 place-from (Instruction o) = refl
 place-from Nowhere = refl

@@ -4,6 +4,7 @@ pub mod ReadingCases
 pub mod ReaderLaws
 pub mod RowLinesLaws
 pub mod FormLinesLaws
+pub mod DeviceLinesLaws
 pub mod ReadingLaws
 pub mod SizeLaws
 pub mod DecimalLaws

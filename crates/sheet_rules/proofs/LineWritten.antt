@@ -90,6 +90,12 @@ types-written = count-written (record { is = λ a b. refl; count = refl })
 pub forms-written : (low high : ℕ) (k : Place) (ns : List ℕ) → Judges (λ n. NumberWritten Place.Forms n (line k ns ∷ [])) (countLine Place.Forms low high k ns)
 forms-written = count-written (record { is = λ a b. refl; count = refl })
 
+pub devices-written : (low high : ℕ) (k : Place) (ns : List ℕ) → Judges (λ n. NumberWritten Place.Devices n (line k ns ∷ [])) (countLine Place.Devices low high k ns)
+devices-written = count-written (record { is = λ a b. refl; count = refl })
+
+pub device-written : (bound : ℕ) (k : Place) (ns : List ℕ) → Judges (λ n. NumberWritten Place.Device n (line k ns ∷ [])) (existingLine Place.Device bound k ns)
+device-written = existing-written (record { is = λ a b. refl; count = refl })
+
 pub keep-written : (bound : ℕ) (k : Place) (ns : List ℕ) → Judges (λ n. NumberWritten Place.Keep n (line k ns ∷ [])) (existingLine Place.Keep bound k ns)
 keep-written = existing-written (record { is = λ a b. refl; count = refl })
 

@@ -1,7 +1,8 @@
 -- The round trip: a text that reads as a sheet is that sheet's print. Each reader takes the lines of what it gives. Assumes nothing.
-use Prim.Native.Nat.{ℕ, suc, _+_}
+use Prim.Native.Nat.{ℕ, suc, _+_, _≤_}
 use native.Mathlib.Omega.{arith}
 use mathlib.Core.Path.{_≡_, refl, sym, ap, _∙_}
+use mathlib.Core.Bool.{Bool, true, false, cond}
 use mathlib.Core.List.{List, [], _∷_, _++_, map, map-append, append-assoc, append-nil}
 use lib.ListN.{length, getD, length-append}
 use Rattle.lists.proofs.Tests.{clash}
@@ -9,16 +10,18 @@ use Rattle.sheet_rules.specs.declared.Member.{Member}
 use Rattle.sheet_rules.specs.declared.Member.the-variants.{Method, Field}
 use Rattle.sheet_rules.specs.declared.Place.{Place}
 use Rattle.sheet_rules.specs.declared.Reason.{Reason}
-use Rattle.sheet_rules.specs.Limits.{rowLimit, formLimit}
+use Rattle.sheet_rules.specs.Limits.{rowLimit, formLimit, deviceLimit}
 use Rattle.sheet_rules.specs.Lines.{Line, line}
 use Rattle.sheet_rules.specs.Sheet.{Row, Instr, Part, Form, Sheet, noMember, rowAt, sizeOfParts, sizeOfForms}
 use Rattle.sheet_rules.specs.Reader.{Read, got, refused, Reader, give, andThen, one, many, countLine, existingLine}
 use Rattle.sheet_rules.specs.RowLines.{Heading, rowLine, memberLine, readRow}
 use Rattle.sheet_rules.specs.FormLines.{FormHeading, formLine, bodyLine, instrLine, readInstrs, readPart, readForm}
+use Rattle.sheet_rules.specs.DeviceLines.{nextIs, readDeviceLines, readDevices}
 use Rattle.sheet_rules.specs.Reading.{readEnd, readSheet, readable, conclude}
-use Rattle.sheet_rules.specs.Print.{kindNumber, memberWritten, rowWritten, rowsWritten, instrWritten, partWritten, partsWritten, keepWritten, formWritten, formsWritten, afterForms, sheetWritten}
+use Rattle.sheet_rules.specs.Print.{kindNumber, memberWritten, rowWritten, rowsWritten, instrWritten, partWritten, partsWritten, keepWritten, formWritten, formsWritten, deviceWritten, devicesWritten, afterForms, sheetWritten}
+use Rattle.sheet_rules.proofs.ReaderLaws.{Judges, judges-map, judges-both, countLine-within}
 use Rattle.sheet_rules.proofs.TakenLaws.{Takes, takes, takes-none, takes-give, takes-map, takes-one, takes-then, takes-many}
-use Rattle.sheet_rules.proofs.LineWritten.{NumberWritten, types-written, forms-written, keep-written, init-written, body-written, main-written, row-written, form-written, member-written, instr-written}
+use Rattle.sheet_rules.proofs.LineWritten.{NumberWritten, types-written, forms-written, devices-written, device-written, keep-written, init-written, body-written, main-written, row-written, form-written, member-written, instr-written}
 
 -- MANY ITEMS
 
@@ -127,6 +130,33 @@ form-takes rows forms earlier ls n =
     (λ parts q r ls n. takes-give (rw append-nil
     ((λ i. e i ++ (p .lines i ++ r .lines i)) ∙ ap (λ (c : ℕ). line Place.Form (h .row ∷ c ∷ []) ∷ (map keepWritten keeps ++ partsWritten parts)) (sym (p .counted)))))))
 
+-- DEVICES
+
+-- some devices have their lines, if there is one
+devices-some : (fs : List ℕ) (d : ℕ) → length fs ≡ d → 1 ≤ d → (line Place.Devices (d ∷ []) ∷ []) ++ (map deviceWritten fs ++ []) ≡ devicesWritten fs
+unfolding devicesWritten
+devices-some [] d e h = absurd (omega arith)
+devices-some (f ∷ fs) d e h = λ i. line Place.Devices (sym e i ∷ []) ∷ append-nil (map deviceWritten (f ∷ fs)) i
+
+device-lines-take : (forms : ℕ) (ls : List Line) (n : ℕ) → Takes (λ fs l. l ≡ devicesWritten fs) ls (readDeviceLines forms ls n)
+unfolding readDeviceLines
+device-lines-take forms ls n =
+    takes-then (λ d l. NumberWritten Place.Devices d l × (1 ≤ d)) _ (takes-one (countLine Place.Devices 1 deviceLimit) counted ls n)
+    (λ d l e ls n. takes-map (λ fs m p. (λ i. e .0 i ++ p .lines i) ∙ ap (λ (z : List Line). line Place.Devices (d ∷ []) ∷ z) (sym (append-nil (map deviceWritten fs))) ∙ devices-some fs d (p .counted) (e .1))
+    (takes-items (map deviceWritten) (λ f. deviceWritten f ∷ []) (map-snoc deviceWritten) refl (λ before. one (existingLine Place.Device forms))
+    (λ before. takes-one (existingLine Place.Device forms) (device-written forms)) d ls n))
+  where
+    counted : (k : Place) (ns : List ℕ) → Judges (λ d. NumberWritten Place.Devices d (line k ns ∷ []) × (1 ≤ d)) (countLine Place.Devices 1 deviceLimit k ns)
+    counted k ns = judges-both (devices-written 1 deviceLimit k ns) (judges-map (λ c w. w .0) (countLine-within Place.Devices 1 deviceLimit k ns))
+
+devices-take : (forms : ℕ) (ls : List Line) (n : ℕ) → Takes (λ fs l. l ≡ devicesWritten fs) ls (readDevices forms ls n)
+unfolding readDevices devicesWritten
+devices-take forms ls n = go (nextIs Place.Devices ls)
+  where
+    go : (b : Bool) → Takes (λ fs l. l ≡ devicesWritten fs) ls (cond b (readDeviceLines forms ls n) (give [] ls n))
+    go true = device-lines-take forms ls n
+    go false = takes-give refl
+
 -- THE SHEET
 
 end-takes : (ls : List Line) (n : ℕ) → Takes (λ u l. l ≡ []) ls (readEnd ls n)
@@ -135,12 +165,12 @@ end-takes [] n = takes-give refl
 end-takes (l ∷ ls) n = takes-none
 
 -- each count is how many there are
-counts : (rows : List Row) (forms : List Form) (main : List Instr) (t f i : ℕ) → length rows ≡ t → length forms ≡ f → length main ≡ i
-    → (line Place.Types (t ∷ []) ∷ []) ++ (rowsWritten rows ++ ((line Place.Forms (f ∷ []) ∷ []) ++ (formsWritten forms ++ ((line Place.Main (i ∷ []) ∷ []) ++ (map instrWritten main ++ [])))))
-    ≡ sheetWritten (record { rows = rows; forms = forms; main = main })
-counts rows forms main t f i a b c =
-    let s : Sheet = record { rows = rows; forms = forms; main = main } in
-    (λ j. line Place.Types (sym a j ∷ []) ∷ (rowsWritten rows ++ (line Place.Forms (sym b j ∷ []) ∷ (formsWritten forms ++ (line Place.Main (sym c j ∷ []) ∷ append-nil (map instrWritten main) j)))))
+counts : (rows : List Row) (forms : List Form) (devices : List ℕ) (main : List Instr) (t f i : ℕ) → length rows ≡ t → length forms ≡ f → length main ≡ i
+    → (line Place.Types (t ∷ []) ∷ []) ++ (rowsWritten rows ++ ((line Place.Forms (f ∷ []) ∷ []) ++ (formsWritten forms ++ (devicesWritten devices ++ ((line Place.Main (i ∷ []) ∷ []) ++ (map instrWritten main ++ []))))))
+    ≡ sheetWritten (record { rows = rows; forms = forms; devices = devices; main = main })
+counts rows forms devices main t f i a b c =
+    let s : Sheet = record { rows = rows; forms = forms; devices = devices; main = main } in
+    (λ j. line Place.Types (sym a j ∷ []) ∷ (rowsWritten rows ++ (line Place.Forms (sym b j ∷ []) ∷ (formsWritten forms ++ (devicesWritten devices ++ (line Place.Main (sym c j ∷ []) ∷ append-nil (map instrWritten main) j))))))
     ∙ ap (λ (z : List Line). line Place.Types (length rows ∷ []) ∷ z)
     (sym (append-assoc (rowsWritten rows) (line Place.Forms (length forms ∷ []) ∷ []) (formsWritten forms ++ afterForms s)))
 
@@ -151,12 +181,13 @@ sheet-takes ls n =
     (λ t l₁ e₁ ls n. takes-then (All rowsWritten t) _ (takes-items rowsWritten rowWritten rows-snoc rows-none readRow row-takes t ls n)
     (λ rows l₂ e₂ ls n. takes-then (NumberWritten Place.Forms) _ (takes-one (countLine Place.Forms 0 formLimit) (forms-written 0 formLimit) ls n)
     (λ f l₃ e₃ ls n. takes-then (All formsWritten f) _ (takes-items formsWritten formWritten forms-snoc forms-none (readForm rows f) (form-takes rows f) f ls n)
-    (λ forms l₄ e₄ ls n. takes-then (NumberWritten Place.Main) _ (takes-one (bodyLine Place.Main (sizeOfForms forms)) (main-written (sizeOfForms forms)) ls n)
-    (λ i l₅ e₅ ls n. takes-then (All (map instrWritten) i) _ (instrs-take f 0 i ls n)
-    (λ main l₆ e₆ ls n. takes-then (λ u l. l ≡ []) _ (end-takes ls n)
-    (λ u l₇ e₇ ls n. takes-give
-    ((λ j. e₁ j ++ (e₂ .lines j ++ (e₃ j ++ (e₄ .lines j ++ (e₅ j ++ (e₆ .lines j ++ (e₇ j ++ [])))))))
-    ∙ counts rows forms main t f i (e₂ .counted) (e₄ .counted) (e₆ .counted)))))))))
+    (λ forms l₄ e₄ ls n. takes-then (λ fs l. l ≡ devicesWritten fs) _ (devices-take f ls n)
+    (λ devices l₅ e₅ ls n. takes-then (NumberWritten Place.Main) _ (takes-one (bodyLine Place.Main (sizeOfForms forms)) (main-written (sizeOfForms forms)) ls n)
+    (λ i l₆ e₆ ls n. takes-then (All (map instrWritten) i) _ (instrs-take f (length devices) i ls n)
+    (λ main l₇ e₇ ls n. takes-then (λ u l. l ≡ []) _ (end-takes ls n)
+    (λ u l₈ e₈ ls n. takes-give
+    ((λ j. e₁ j ++ (e₂ .lines j ++ (e₃ j ++ (e₄ .lines j ++ (e₅ j ++ (e₆ j ++ (e₇ .lines j ++ (e₈ j ++ []))))))))
+    ∙ counts rows forms devices main t f i (e₂ .counted) (e₄ .counted) (e₇ .counted))))))))))
 
 -- nothing is left when a sheet was read
 data NoneLeft {A : Type 0} : Read A → Type 0 where
@@ -180,8 +211,9 @@ sheet-left ls n =
     left-then (many t readRow [] ls n) _ (λ rows ls n.
     left-then (one (countLine Place.Forms 0 formLimit) ls n) _ (λ f ls n.
     left-then (many f (readForm rows f) [] ls n) _ (λ forms ls n.
+    left-then (readDevices f ls n) _ (λ devices ls n.
     left-then (one (bodyLine Place.Main (sizeOfForms forms)) ls n) _ (λ i ls n.
-    left-then (readInstrs f 0 i ls n) _ (λ main ls n. left-end _ ls n))))))
+    left-then (readInstrs f (length devices) i ls n) _ (λ main ls n. left-end _ ls n)))))))
 
 -- the lines that read as a sheet are its lines
 pub lines-written : (ls : List Line) (n : ℕ) (s : Sheet) → conclude (readSheet ls n) ≡ readable s → ls ≡ sheetWritten s

@@ -1,12 +1,19 @@
 -- One law for each way of putting readers together: what holds of every value that reading gives. Assumes nothing.
-use Prim.Native.Nat.{ℕ, zero, suc}
+use Prim.Native.Nat.{ℕ, zero, suc, _+_, _≤_, _<_}
+use native.Mathlib.Omega.{arith}
+use mathlib.Core.Path.{_≡_}
 use mathlib.Core.Bool.{Bool, true, false}
 use mathlib.Core.List.{List, [], _∷_, _++_}
-use lib.Dec.{T}
+use mathlib.Core.Logic.{_⊎_, inl, inr}
+use lib.Dec.{T, leb, leb→le, ltb→lt}
+use lib.ListN.{length, length-append}
+use Rattle.lists.specs.In.{In}
+use Rattle.lists.proofs.InLaws.{in-nil, in-snoc}
+use Rattle.lists.proofs.Tests.{and-left, and-right}
 use Rattle.sheet_rules.specs.declared.Place.{Place}
 use Rattle.sheet_rules.specs.declared.Reason.{Reason}
 use Rattle.sheet_rules.specs.Lines.{Line, line, torn}
-use Rattle.sheet_rules.specs.Reader.{Judged, good, bad, demand, Read, got, refused, Reader, andThen, settle, one, many}
+use Rattle.sheet_rules.specs.Reader.{Judged, good, bad, demand, Read, got, refused, Reader, andThen, settle, one, many, nth, countLine, existingLine}
 
 -- the value of a line, if it was judged good, has the property
 pub data Judges {A : Type 0} (P : A → Type 0) : Judged A → Type 0 where
@@ -22,6 +29,15 @@ pub data Gives {A : Type 0} (P : A → Type 0) : Read A → Type 0 where
 pub judges-any : {A : Type 0} (x : Judged A) → Judges (λ a. Unit {0}) x
 judges-any (good a) = its-good tt
 judges-any (bad r) = its-bad
+
+-- a property that follows from the property, and two at once
+pub judges-map : {A : Type 0} {P Q : A → Type 0} → ((a : A) → P a → Q a) → {x : Judged A} → Judges P x → Judges Q x
+judges-map f (its-good {a = a} p) = its-good (f a p)
+judges-map f its-bad = its-bad
+
+pub judges-both : {A : Type 0} {P Q : A → Type 0} {x : Judged A} → Judges P x → Judges Q x → Judges (λ a. P a × Q a) x
+judges-both (its-good p) (its-good q) = its-good (p, q)
+judges-both its-bad its-bad = its-bad
 
 pub gives-any : {A : Type 0} (x : Read A) → Gives (λ a. Unit {0}) x
 gives-any (got a ls n) = its-got tt
@@ -66,3 +82,49 @@ gives-many P item h zero before p ls n = its-got p
 gives-many P item h (suc k) before p ls n =
     gives-then (λ a. P k (before ++ (a ∷ []))) (P 0) (item before ls n) (λ a. many k item (before ++ (a ∷ []))) (h k before p ls n)
     (λ a q. gives-many P item h k (before ++ (a ∷ [])) q)
+
+-- LINES OF ONE NUMBER
+
+-- a count is within its limits
+pub countLine-within : (wanted : Place) (low high : ℕ) (k : Place) (ns : List ℕ) → Judges (λ c. (low ≤ c) × (c ≤ high)) (countLine wanted low high k ns)
+unfolding countLine
+countLine-within wanted low high k ns =
+    judges-demand P _ _ _ (λ _. judges-demand P _ _ _ (λ t. its-good (
+      leb→le low (nth ns 0) (and-left (leb low (nth ns 0)) (leb (nth ns 0) high) t),
+      leb→le (nth ns 0) high (and-right (leb low (nth ns 0)) (leb (nth ns 0) high) t),
+    )))
+  where
+    P : ℕ → Type 0
+    P c = (low ≤ c) × (c ≤ high)
+
+-- a number that counts something there
+pub existingLine-below : (wanted : Place) (bound : ℕ) (k : Place) (ns : List ℕ) → Judges (λ m. m < bound) (existingLine wanted bound k ns)
+unfolding existingLine
+existingLine-below wanted bound k ns =
+    judges-demand P _ _ _ (λ _. judges-demand P _ _ _ (λ t. its-good (ltb→lt (nth ns 0) bound t)))
+  where
+    P : ℕ → Type 0
+    P m = m < bound
+
+-- some numbers so far, each of something that is there, with k to come of a count in all
+pub record ThereSoFar (bound count k : ℕ) (ns : List ℕ) : Type 0 where
+  pub there : (a : ℕ) → In a ns → a < bound
+  pub counted : length ns + k ≡ count
+
+there-keep : (bound count k : ℕ) (before : List ℕ) → ThereSoFar bound count (suc k) before → (b : ℕ) → b < bound → ThereSoFar bound count k (before ++ (b ∷ []))
+there-keep bound count k before c b h = record { there = each; counted = rw length-append (omega arith) }
+  where
+    each : (a : ℕ) → In a (before ++ (b ∷ [])) → a < bound
+    each a i = go (in-snoc before i)
+      where
+        go : In a before ⊎ (a ≡ b) → a < bound
+        go (inl j) = c .there a j
+        go (inr e) = omega arith
+
+-- `count` lines of such a number give so many of them
+pub gives-there : (wanted : Place) (bound count : ℕ) (ls : List Line) (n : ℕ) → Gives (ThereSoFar bound count 0) (many count (λ before. one (existingLine wanted bound)) [] ls n)
+gives-there wanted bound count ls n =
+    gives-many (ThereSoFar bound count) (λ before. one (existingLine wanted bound))
+    (λ k before c ls n. gives-map (there-keep bound count k before c) _
+    (gives-one (λ b. b < bound) (existingLine wanted bound) (existingLine-below wanted bound) ls n))
+    count [] (record { there = λ a i. absurd (in-nil i); counted = omega arith }) ls n

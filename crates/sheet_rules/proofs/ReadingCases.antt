@@ -8,11 +8,11 @@ use mathlib.Core.List.{List, [], _∷_, _++_, map}
 use lib.Dec.{ltb}
 use lib.ListN.{length, take, replicate}
 use Rattle.sheet_rules.specs.declared.Lack.{Lack}
-use Rattle.sheet_rules.specs.declared.Reason.the-variants.{BufferTooShort, TextTooLong, Malformed, OutOfLimit, NotAscending, DuplicateRow, NotDefined, ImpureForm, NoSuchMember, Misfit, NoHolder, CircularCall, BeyondCount}
+use Rattle.sheet_rules.specs.declared.Reason.the-variants.{BufferTooShort, TextTooLong, Malformed, OutOfLimit, NotAscending, DuplicateRow, NotDefined, ImpureForm, NoSuchMember, Misfit, NoHolder, CircularCall, BeyondCount, WrongDevice}
 use Rattle.sheet_rules.specs.Answers.{numberOf}
 use Rattle.sheet_rules.specs.Keys.{bytes}
 use Rattle.sheet_rules.specs.Reading.{Meaning, readable, unreadable, meaning}
-use Rattle.sheet_rules.specs.Samples.{textOf, withLine, P, L}
+use Rattle.sheet_rules.specs.Samples.{textOf, withLine, P, L, D}
 use Rattle.sheet_rules.proofs.Opened.{reading}
 
 -- the refusal's number and line
@@ -30,6 +30,14 @@ gives text number line = record { text = text; wanted = number ∷ line ∷ [] }
 -- P with one line replaced
 abbrev P-with : ℕ → String → List ℕ
 P-with n l = textOf (withLine n l P)
+
+-- D with one line replaced
+abbrev D-with : ℕ → String → List ℕ
+D-with n l = textOf (withLine n l D)
+
+-- D with this many devices, all of form 1
+abbrev devices-of : String → ℕ → List ℕ
+devices-of l d = textOf (take 20 D ++ (l ∷ replicate d "device=1") ++ ("main=1" ∷ "copy=0" ∷ []))
 
 -- rows 2 and 3 are resources with these members
 abbrev differing : String → String → List ℕ
@@ -104,6 +112,27 @@ cases =
     ∷ gives (textOf ("types=2" ∷ "type=0,0" ∷ "type=1,1" ∷ "var=1,0" ∷ "forms=1" ∷ "form=1,1" ∷ "keep=0" ∷ "init=1" ∷ [])) 7 8
     -- a body names a form that stands later in the sheet
     ∷ gives (P-with 11 "new=2,1") 0 0
+    -- devices: their count, their number counts, their places, their forms, and main's slots after them; what a device's form is, is not
+    -- asked at reading
+    ∷ gives (textOf D) 0 0
+    ∷ gives (D-with 21 "devices=0") 4 21
+    ∷ gives (devices-of "devices=1" 1) 0 0
+    ∷ gives (devices-of "devices=8" 8) 0 0
+    ∷ gives (devices-of "devices=9" 9) 4 21
+    ∷ gives (D-with 21 "devices=2,1") 3 21
+    ∷ gives (D-with 22 "device=1,2") 3 22
+    ∷ gives (D-with 21 "devices=1") 3 23
+    ∷ gives (D-with 21 "devices=3") 3 24
+    ∷ gives (D-with 21 "device=1") 3 21
+    ∷ gives (D-with 22 "devices=1") 3 22
+    ∷ gives (D-with 9 "devices=1") 3 9
+    ∷ gives (D-with 25 "devices=1") 3 25
+    ∷ gives (D-with 22 "device=4") 7 22
+    ∷ gives (D-with 25 "copy=1") 0 0
+    ∷ gives (D-with 25 "copy=2") 7 25
+    ∷ gives (D-with 27 "call=3,3,4") 7 27
+    ∷ gives (D-with 22 "device=0") 0 0
+    ∷ gives (D-with 22 "device=3") 0 0
     -- the first line at fault ends the reading, and on a line the lower number wins
     ∷ gives (textOf (withLine 4 "def=1,1,0" (withLine 20 "call=2,2" P))) 7 4
     ∷ gives (P-with 4 "def=64,1,0") 4 4
@@ -178,6 +207,6 @@ all-64 = refl
 -- THE NUMBERS OF THE REFUSALS
 
 pub numbered :
-    map numberOf (BufferTooShort ∷ TextTooLong ∷ Malformed ∷ OutOfLimit ∷ NotAscending ∷ DuplicateRow ∷ NotDefined ∷ ImpureForm ∷ NoSuchMember ∷ Misfit Lack.Count ∷ NoHolder ∷ CircularCall ∷ BeyondCount ∷ [])
-    ≡ 1 ∷ 2 ∷ 3 ∷ 4 ∷ 5 ∷ 6 ∷ 7 ∷ 8 ∷ 9 ∷ 10 ∷ 11 ∷ 12 ∷ 13 ∷ []
+    map numberOf (BufferTooShort ∷ TextTooLong ∷ Malformed ∷ OutOfLimit ∷ NotAscending ∷ DuplicateRow ∷ NotDefined ∷ ImpureForm ∷ NoSuchMember ∷ Misfit Lack.Count ∷ NoHolder ∷ CircularCall ∷ BeyondCount ∷ WrongDevice ∷ [])
+    ≡ 1 ∷ 2 ∷ 3 ∷ 4 ∷ 5 ∷ 6 ∷ 7 ∷ 8 ∷ 9 ∷ 10 ∷ 11 ∷ 12 ∷ 13 ∷ 14 ∷ []
 numbered = refl

@@ -4,23 +4,24 @@ use native.Mathlib.Omega.{arith}
 use mathlib.Core.Path.{_≡_, sym, subst}
 use mathlib.Core.Bool.{Bool, true, false, cond}
 use mathlib.Core.List.{List}
-use lib.Dec.{leb, leb→le}
+use lib.Dec.{leb}
 use lib.ListN.{length}
 use Rattle.lists.specs.In.{In}
-use Rattle.lists.proofs.Tests.{and-left, and-right, clash}
+use Rattle.lists.proofs.Tests.{clash}
 use Rattle.sheet_rules.specs.declared.Place.{Place}
 use Rattle.sheet_rules.specs.declared.Reason.{Reason}
 use Rattle.sheet_rules.specs.declared.Reason.the-variants.{TextTooLong}
 use Rattle.sheet_rules.specs.Limits.{textLimit, rowLimit, formLimit}
 use Rattle.sheet_rules.specs.Lines.{Line, linesOf}
 use Rattle.sheet_rules.specs.Sheet.{Row, Form, Instr, Sheet, sizeOfForms}
-use Rattle.sheet_rules.specs.Reader.{Read, got, refused, nth, countLine}
+use Rattle.sheet_rules.specs.Reader.{Read, got, refused, countLine}
 use Rattle.sheet_rules.specs.FormLines.{bodyLine}
 use Rattle.sheet_rules.specs.Reading.{readEnd, readSheet, readable, unreadable, conclude, meaning}
 use Rattle.sheet_rules.specs.WellFormed.{LowerRows, Scoped, WellFormedForm, WellFormed}
-use Rattle.sheet_rules.proofs.ReaderLaws.{Judges, its-good, Gives, its-got, its-refused, gives-any, judges-demand, gives-one, gives-then}
+use Rattle.sheet_rules.proofs.ReaderLaws.{Gives, its-got, its-refused, gives-any, gives-one, gives-then, countLine-within}
 use Rattle.sheet_rules.proofs.RowLinesLaws.{WellFormedRows, readRows-wellFormed}
 use Rattle.sheet_rules.proofs.FormLinesLaws.{Room, bodyLine-room, readInstrs-scoped, readForms-wellFormed}
+use Rattle.sheet_rules.proofs.DeviceLinesLaws.{WellFormedDevices, readDevices-wellFormed}
 
 -- a text has at most one meaning
 pub meaning-unique : (text : List ℕ) (s t : Sheet) → meaning text ≡ readable s → meaning text ≡ readable t → s ≡ t
@@ -28,23 +29,11 @@ meaning-unique text s t p q = cc
 
 -- reading gives well-formed sheets
 
--- a count is within its limits
-pub countLine-within : (wanted : Place) (low high : ℕ) (k : Place) (ns : List ℕ) → Judges (λ c. (low ≤ c) × (c ≤ high)) (countLine wanted low high k ns)
-unfolding countLine
-countLine-within wanted low high k ns =
-    judges-demand P _ _ _ (λ _. judges-demand P _ _ _ (λ t. its-good (
-      leb→le low (nth ns 0) (and-left (leb low (nth ns 0)) (leb (nth ns 0) high) t),
-      leb→le (nth ns 0) high (and-right (leb low (nth ns 0)) (leb (nth ns 0) high) t),
-    )))
-  where
-    P : ℕ → Type 0
-    P c = (low ≤ c) × (c ≤ high)
-
-sheet-wellFormed : (rows : List Row) (forms : List Form) (main : List Instr) (t f i : ℕ) → (1 ≤ t) × (t ≤ rowLimit)
+sheet-wellFormed : (rows : List Row) (forms : List Form) (devices : List ℕ) (main : List Instr) (t f i : ℕ) → (1 ≤ t) × (t ≤ rowLimit)
     → WellFormedRows rows × (length rows ≡ t) → (0 ≤ f) × (f ≤ formLimit)
-    → ((g : Form) → In g forms → WellFormedForm rows f g) × (length forms ≡ f) → Room (sizeOfForms forms) i
-    → Scoped f 0 main × (length main ≡ i) → WellFormed (record { rows = rows; forms = forms; main = main })
-sheet-wellFormed rows forms main t f i rows-within all forms-within each room scoped =
+    → ((g : Form) → In g forms → WellFormedForm rows f g) × (length forms ≡ f) → WellFormedDevices f devices → Room (sizeOfForms forms) i
+    → Scoped f (length devices) main × (length main ≡ i) → WellFormed (record { rows = rows; forms = forms; devices = devices; main = main })
+sheet-wellFormed rows forms devices main t f i rows-within all forms-within each started room scoped =
     let e : length rows ≡ t = all .1 in
     let g : length forms ≡ f = each .1 in
     let l : length main ≡ i = scoped .1 in
@@ -54,7 +43,9 @@ sheet-wellFormed rows forms main t f i rows-within all forms-within each room sc
       fewRows = omega arith;
       forms = λ h j. subst (λ (k : ℕ). WellFormedForm rows k h) (sym g) (each .0 h j);
       fewForms = omega arith;
-      main = record { scoped = subst (λ (k : ℕ). Scoped k 0 main) (sym g) (scoped .0); some = omega arith; few = omega arith };
+      devices = λ h j. omega (arith, g, started .there h j);
+      fewDevices = started .few;
+      main = record { scoped = subst (λ (k : ℕ). Scoped k (length devices) main) (sym g) (scoped .0); some = omega arith; few = omega arith };
       size = omega arith;
     }
 
@@ -68,11 +59,12 @@ readSheet-wellFormed ls n =
     (gives-one (λ f. (0 ≤ f) × (f ≤ formLimit)) (countLine Place.Forms 0 formLimit) (countLine-within Place.Forms 0 formLimit) ls n) (λ f c ls n.
     gives-then (λ forms. ((g : Form) → In g forms → WellFormedForm rows f g) × (length forms ≡ f)) WellFormed _ _
     (readForms-wellFormed rows f ls n) (λ forms d ls n.
+    gives-then (WellFormedDevices f) WellFormed _ _ (readDevices-wellFormed f ls n) (λ devices v ls n.
     gives-then (Room (sizeOfForms forms)) WellFormed _ _
     (gives-one (Room (sizeOfForms forms)) (bodyLine Place.Main (sizeOfForms forms)) (bodyLine-room Place.Main (sizeOfForms forms)) ls n) (λ i e ls n.
-    gives-then (λ main. Scoped f 0 main × (length main ≡ i)) WellFormed _ _ (readInstrs-scoped f 0 i ls n) (λ main g ls n.
+    gives-then (λ main. Scoped f (length devices) main × (length main ≡ i)) WellFormed _ _ (readInstrs-scoped f (length devices) i ls n) (λ main g ls n.
     gives-then (λ _. Unit {0}) WellFormed _ _ (gives-any (readEnd ls n)) (λ _ _ ls n.
-    its-got (sheet-wellFormed rows forms main t f i a b c d e g))))))))
+    its-got (sheet-wellFormed rows forms devices main t f i a b c d v e g)))))))))
 
 -- what holds of every sheet that reading gives holds of the sheet that a text means
 pub meaning-has : (P : Sheet → Type 0) → ((ls : List Line) (n : ℕ) → Gives P (readSheet ls n)) → (text : List ℕ) (s : Sheet) → meaning text ≡ readable s → P s

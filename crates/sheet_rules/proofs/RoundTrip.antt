@@ -17,7 +17,7 @@ use Rattle.sheet_rules.specs.Keys.{samePlace}
 use Rattle.sheet_rules.specs.Lines.{Line, line, linesOf}
 use Rattle.sheet_rules.specs.Sheet.{Row, Instr, new, call, get, put, copy, Part, init, body, Form, Sheet}
 use Rattle.sheet_rules.specs.Reading.{readSheet, readable, unreadable, conclude, meaning}
-use Rattle.sheet_rules.specs.Print.{memberWritten, rowsWritten, instrWritten, partWritten, partsWritten, keepWritten, formsWritten, beforeForms, sheetWritten, linesBytes, print}
+use Rattle.sheet_rules.specs.Print.{memberWritten, rowsWritten, instrWritten, partWritten, partsWritten, keepWritten, formsWritten, deviceWritten, devicesWritten, beforeForms, sheetWritten, linesBytes, print}
 use Rattle.sheet_rules.proofs.PrintLines.{hasKey, Standing, standing, Proper, lines-back}
 use Rattle.sheet_rules.proofs.PrintLaws.{lines-written}
 
@@ -25,7 +25,7 @@ use Rattle.sheet_rules.proofs.PrintLaws.{lines-written}
 
 -- the place of a line at which a form's lines begin, or before which the forms end
 abbrev pub isBorder : Place → Bool
-isBorder k = samePlace k Place.Form || samePlace k Place.Main
+isBorder k = samePlace k Place.Form || (samePlace k Place.Devices || samePlace k Place.Main)
 
 -- the place of any other key
 abbrev pub isInner : Place → Bool
@@ -79,10 +79,16 @@ unfolding formsWritten
 forms-proper [] = none
 forms-proper (f ∷ fs) = each (standing tt) (each-both (each-follows inner-proper (form-inner f)) (forms-proper fs))
 
+devices-proper : (fs : List ℕ) → Each Proper (devicesWritten fs)
+unfolding devicesWritten
+devices-proper [] = none
+devices-proper (f ∷ fs) = each (standing tt) (each-map deviceWritten (λ g. standing tt) (f ∷ fs))
+
 pub sheet-proper : (s : Sheet) → Each Proper (sheetWritten s)
 sheet-proper s =
     each-both (each-follows inner-proper (before-inner s))
-    (each-both (forms-proper (s .forms)) (each (standing tt) (each-follows inner-proper (each-map instrWritten instr-inner (s .main)))))
+    (each-both (forms-proper (s .forms))
+    (each-both (devices-proper (s .devices)) (each (standing tt) (each-follows inner-proper (each-map instrWritten instr-inner (s .main))))))
 
 -- THE ROUND TRIP
 

@@ -8,7 +8,7 @@ use lib.ListN.{length, take}
 use Rattle.lists.specs.BeforeNth.{beforeNth}
 use Rattle.sheet_rules.specs.declared.FormReply.{FormReply}
 use Rattle.sheet_rules.specs.Stretch.{textLines, begins, formReply, replyNumber, replyLine, stretchStart, stretchLength}
-use Rattle.sheet_rules.specs.Samples.{textOf, withLine, P}
+use Rattle.sheet_rules.specs.Samples.{textOf, withLine, P, D}
 use Rattle.sheet_rules.proofs.Opened.{reading}
 
 record Case : Type 0 where
@@ -44,6 +44,10 @@ cases =
     -- told apart by their place alone
     ∷ shows twins 0 25 9
     ∷ shows twins 1 34 9
+    -- the last form's lines end before `devices`
+    ∷ shows (textOf D) 2 114 23
+    ∷ shows (textOf D) 3 137 34
+    ∷ refuses (textOf D) 4 7 0
     -- not in the sheet
     ∷ refuses (textOf P) 3 7 0
     ∷ refuses (textOf P) 65536 7 0

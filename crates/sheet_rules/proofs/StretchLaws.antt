@@ -19,13 +19,13 @@ use Rattle.sheet_rules.specs.declared.MemberKind.{MemberKind}
 use Rattle.sheet_rules.specs.declared.Operation.{Operation}
 use Rattle.sheet_rules.specs.declared.Place.{Place}
 use Rattle.sheet_rules.specs.declared.Reason.{Reason}
-use Rattle.sheet_rules.specs.declared.Reason.the-variants.{BufferTooShort, TextTooLong, Malformed, OutOfLimit, NotAscending, DuplicateRow, NotDefined, ImpureForm, NoSuchMember, Misfit, NoHolder, CircularCall, BeyondCount}
+use Rattle.sheet_rules.specs.declared.Reason.the-variants.{BufferTooShort, TextTooLong, Malformed, OutOfLimit, NotAscending, DuplicateRow, NotDefined, ImpureForm, NoSuchMember, Misfit, NoHolder, CircularCall, BeyondCount, WrongDevice}
 use Rattle.sheet_rules.specs.Answers.{numberOf}
 use Rattle.sheet_rules.specs.Keys.{bytes}
 use Rattle.sheet_rules.specs.Lines.{Line, line}
-use Rattle.sheet_rules.specs.Sheet.{Form, Sheet, noForm, formAt}
+use Rattle.sheet_rules.specs.Sheet.{Instr, Form, Sheet, noForm, formAt}
 use Rattle.sheet_rules.specs.Reading.{Meaning, readable, unreadable, meaning}
-use Rattle.sheet_rules.specs.Print.{instrWritten, formWritten, formsWritten, beforeForms, afterForms, sheetWritten, lineBytes, linesBytes, print}
+use Rattle.sheet_rules.specs.Print.{instrWritten, formWritten, formsWritten, deviceWritten, devicesWritten, mainWritten, beforeForms, afterForms, sheetWritten, lineBytes, linesBytes, print}
 use Rattle.sheet_rules.specs.Stretch.{textLines, begins, formBorder, formLines, formStretch, formIn, formOn, formReply, stretchStart, stretchLength, linesBefore, linesAfter, Shows}
 use Rattle.sheet_rules.proofs.PrintLines.{hasKey, standing}
 use Rattle.sheet_rules.proofs.PrintLaws.{forms-snoc}
@@ -36,7 +36,7 @@ use Rattle.sheet_rules.proofs.TextLines.{text-lines}
 abbrev border : Line → Bool
 border l = formBorder (lineBytes l)
 
--- THE BORDERS OF A SHEET ARE ITS `form` LINES AND `main`
+-- THE BORDERS OF A SHEET ARE ITS `form` LINES, `devices` AND `main`
 
 border-key : (k : Place) (n : ℕ) (ns : List ℕ) → border (line k (n ∷ ns)) ≡ isBorder k
 unfolding lineBytes bytes begins
@@ -49,6 +49,8 @@ border-key Place.Form n ns = refl
 border-key Place.Keep n ns = refl
 border-key Place.Init n ns = refl
 border-key Place.Body n ns = refl
+border-key Place.Devices n ns = refl
+border-key Place.Device n ns = refl
 border-key Place.Main n ns = refl
 border-key (Place.Instruction Operation.New) n ns = refl
 border-key (Place.Instruction Operation.Call) n ns = refl
@@ -80,12 +82,20 @@ forms-before (suc n) (f ∷ fs) h l ls e =
     ∙ nth-none border n (each-follows inner-border (form-inner f)) (formsWritten fs ++ (l ∷ ls))
     ∙ ap (λ (zs : List Line). afterFirst f ++ zs) (forms-before n fs (omega arith) l ls e))
 
+-- what stands after the forms begins with a border
+after-before : (forms : List Form) (devices : List ℕ) (main : List Instr) (n : ℕ) → n ≤ length forms
+    → beforeNth border n (formsWritten forms ++ (devicesWritten devices ++ mainWritten main)) ≡ formsWritten (take n forms)
+unfolding devicesWritten
+after-before forms [] main n h = forms-before n forms h (line Place.Main (length main ∷ [])) (map instrWritten main) (border-key Place.Main (length main) [])
+after-before forms (f ∷ fs) main n h =
+    forms-before n forms h (line Place.Devices (suc (length fs) ∷ [])) (map deviceWritten (f ∷ fs) ++ mainWritten main) (border-key Place.Devices (suc (length fs)) [])
+
 sheet-before : (s : Sheet) (n : ℕ) → n ≤ length (s .forms)
     → beforeNth border n (sheetWritten s) ≡ beforeForms s ++ formsWritten (take n (s .forms))
 sheet-before s n h =
     nth-none border n (each-follows inner-border (before-inner s)) (formsWritten (s .forms) ++ afterForms s)
     ∙ ap (λ (zs : List Line). beforeForms s ++ zs)
-    (forms-before n (s .forms) h (line Place.Main (length (s .main) ∷ [])) (map instrWritten (s .main)) (border-key Place.Main (length (s .main)) []))
+    (after-before (s .forms) (s .devices) (s .main) n h)
 
 -- REFUSED
 
@@ -104,6 +114,7 @@ number-some (Misfit l) = omega arith
 number-some NoHolder = omega arith
 number-some CircularCall = omega arith
 number-some BeyondCount = omega arith
+number-some WrongDevice = omega arith
 
 -- in a sheet: the form is there, or not
 module _ (text : List ℕ) (s : Sheet) (f : ℕ) where

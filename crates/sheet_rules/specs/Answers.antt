@@ -1,11 +1,11 @@
--- The paper's numbers for the answers that are enums (document 01, Turned away; Fit and typing; document 02, orders 3 and 4). Stands
+-- The paper's numbers for the answers that are enums (document 01, Turned away; Fit and typing; document 02, orders 3, 4 and 7). Stands
 -- on the shared types.
 use Prim.Native.Nat.{ℕ}
 use mathlib.Core.Bool.{Bool, true, false}
 use mathlib.Core.Option.{Option, none, some}
 use Rattle.sheet_rules.specs.declared.Lack.{Lack}
 use Rattle.sheet_rules.specs.declared.Reason.{Reason}
-use Rattle.sheet_rules.specs.declared.Reason.the-variants.{BufferTooShort, TextTooLong, Malformed, OutOfLimit, NotAscending, DuplicateRow, NotDefined, ImpureForm, NoSuchMember, Misfit, NoHolder, CircularCall, BeyondCount}
+use Rattle.sheet_rules.specs.declared.Reason.the-variants.{BufferTooShort, TextTooLong, Malformed, OutOfLimit, NotAscending, DuplicateRow, NotDefined, ImpureForm, NoSuchMember, Misfit, NoHolder, CircularCall, BeyondCount, WrongDevice}
 use Rattle.sheet_rules.specs.declared.Verdict.{Verdict}
 use Rattle.sheet_rules.specs.declared.Verdict.the-variants.{Accepted, Refused}
 use Rattle.sheet_rules.specs.declared.FitAnswer.{FitAnswer}
@@ -39,6 +39,8 @@ numberOf NoHolder = 11
 numberOf CircularCall = 12
 -- beyond count (document 02, order 4)
 numberOf BeyondCount = 13
+-- wrong device (document 02, order 7)
+numberOf WrongDevice = 14
 
 -- the number and the line of a verdict: 0 and 0 when accepted (Turned away)
 abbrev pub verdictNumber : Verdict → ℕ
@@ -65,6 +67,7 @@ reasonLack (Misfit l) = some l
 reasonLack NoHolder = none
 reasonLack CircularCall = none
 reasonLack BeyondCount = none
+reasonLack WrongDevice = none
 
 -- what is lacking by a verdict (document 02, order 3)
 abbrev pub verdictLack : Verdict → Option Lack

@@ -1,4 +1,4 @@
--- The keys: how each is spelled, how many numbers follow it, and where it may stand (document 01, The sheet).
+-- The keys: how each is spelled, how many numbers follow it, and where it may stand (document 01, The sheet; document 02, order 7).
 -- Stands on the shared types and the characters' numbers.
 use Prim.Native.Nat.{ℕ}
 use Prim.Native.Char.{code}
@@ -12,7 +12,7 @@ use Rattle.sheet_rules.specs.declared.MemberKind.the-variants.{Method, F
 use Rattle.sheet_rules.specs.declared.Operation.{Operation}
 use Rattle.sheet_rules.specs.declared.Operation.the-variants.{New, Call, Get, Put, Copy}
 use Rattle.sheet_rules.specs.declared.Place.{Place}
-use Rattle.sheet_rules.specs.declared.Place.the-variants.{Types, Row, Member, Forms, Form, Keep, Init, Body, Main, Instruction, Nowhere}
+use Rattle.sheet_rules.specs.declared.Place.the-variants.{Types, Row, Member, Forms, Form, Keep, Init, Body, Devices, Device, Main, Instruction, Nowhere}
 
 -- the bytes of a quoted text; every character that stands in this crate is a single byte (The sheet)
 unfoldable pub bytes : String → List ℕ
@@ -49,6 +49,8 @@ keyAt Form = key "form" (exactly 2)
 keyAt Keep = key "keep" (exactly 1)
 keyAt Init = key "init" (exactly 1)
 keyAt Body = key "body" (exactly 1)
+keyAt Devices = key "devices" (exactly 1)
+keyAt Device = key "device" (exactly 1)
 keyAt Main = key "main" (exactly 1)
 keyAt (Instruction New) = key "new" (record { fewest = 1; most = 9 })
 keyAt (Instruction Call) = key "call" (exactly 3)
@@ -69,6 +71,8 @@ allPlaces =
     ∷ Keep
     ∷ Init
     ∷ Body
+    ∷ Devices
+    ∷ Device
     ∷ Main
     ∷ Instruction New
     ∷ Instruction Call
@@ -111,9 +115,11 @@ placeNumber Form = 4
 placeNumber Keep = 5
 placeNumber Init = 6
 placeNumber Body = 7
-placeNumber Main = 8
-placeNumber (Instruction operation) = 9
-placeNumber Nowhere = 10
+placeNumber Devices = 8
+placeNumber Device = 9
+placeNumber Main = 10
+placeNumber (Instruction operation) = 11
+placeNumber Nowhere = 12
 
 -- two places are the same, whichever of its keys it is (The sheet)
 abbrev pub samePlace : Place → Place → Bool
@@ -137,6 +143,8 @@ memberKind Form = Field
 memberKind Keep = Field
 memberKind Init = Field
 memberKind Body = Field
+memberKind Devices = Field
+memberKind Device = Field
 memberKind Main = Field
 memberKind (Instruction operation) = Field
 memberKind Nowhere = Field
@@ -152,5 +160,7 @@ operationOf Form = Copy
 operationOf Keep = Copy
 operationOf Init = Copy
 operationOf Body = Copy
+operationOf Devices = Copy
+operationOf Device = Copy
 operationOf Main = Copy
 operationOf Nowhere = Copy

@@ -5,6 +5,7 @@ pub mod Lines
 pub mod Reader
 pub mod RowLines
 pub mod FormLines
+pub mod DeviceLines
 pub mod Reading
 pub mod WellFormed
 pub mod Answers

@@ -1,4 +1,4 @@
--- The numbers of document 01 that bound a sheet and the machine, each named once. Stands on nothing.
+-- The numbers of documents 01 and 02 that bound a sheet and the machine, each named once. Stands on nothing.
 use Prim.Native.Nat.{ℕ}
 
 -- a text has at most 65,535 bytes (Turned away, 2)
@@ -28,6 +28,10 @@ formLimit = 64
 -- a form keeps at most 8 values (The sheet, `form`)
 abbrev pub keepLimit : ℕ
 keepLimit = 8
+
+-- a sheet that names devices has 1 to 8 of them (document 02, order 7)
+abbrev pub deviceLimit : ℕ
+deviceLimit = 8
 
 -- a body, and main, has 1 to 32 instructions (The sheet, `body` and `main`)
 abbrev pub bodyLimit : ℕ

@@ -71,11 +71,24 @@ formsWritten (f ∷ fs) = formWritten f ++ formsWritten fs
 abbrev pub beforeForms : Sheet → List Line
 beforeForms s = line Place.Types (length (s .rows) ∷ []) ∷ (rowsWritten (s .rows) ++ (line Place.Forms (length (s .forms) ∷ []) ∷ []))
 
--- the lines after the forms: `main=I` and main's instructions (The sheet)
-abbrev pub afterForms : Sheet → List Line
-afterForms s = line Place.Main (length (s .main) ∷ []) ∷ map instrWritten (s .main)
+-- `device=F` (document 02, order 7)
+abbrev pub deviceWritten : ℕ → Line
+deviceWritten f = line Place.Device (f ∷ [])
 
--- the lines of a sheet: rows, forms and main, each after its count (The sheet)
+-- `devices=D` and the `device` lines; a sheet without devices has none of these lines (document 02, order 7)
+unfoldable pub devicesWritten : List ℕ → List Line
+devicesWritten [] = []
+devicesWritten (f ∷ fs) = line Place.Devices (length (f ∷ fs) ∷ []) ∷ map deviceWritten (f ∷ fs)
+
+-- `main=I` and main's instructions (The sheet)
+abbrev pub mainWritten : List Instr → List Line
+mainWritten is = line Place.Main (length is ∷ []) ∷ map instrWritten is
+
+-- the lines after the forms: devices and main (The sheet; document 02, order 7)
+abbrev pub afterForms : Sheet → List Line
+afterForms s = devicesWritten (s .devices) ++ mainWritten (s .main)
+
+-- the lines of a sheet: rows, forms, devices and main, each after its count (The sheet)
 abbrev pub sheetWritten : Sheet → List Line
 sheetWritten s = beforeForms s ++ (formsWritten (s .forms) ++ afterForms s)
 

@@ -69,14 +69,14 @@ nth ns i = getD ns i 0
 abbrev pub within : ℕ → ℕ → ℕ → Bool
 within low high n = leb low n && leb n high
 
--- `types=T` and `forms=F`: a count within its limits (Turned away)
+-- `types=T`, `forms=F` and `devices=D`: a count within its limits (Turned away)
 unfoldable pub countLine : Place → ℕ → ℕ → Place → List ℕ → Judged ℕ
 countLine wanted low high k ns =
     demand (stands wanted k ns) Malformed
     (demand (within low high (nth ns 0)) OutOfLimit
     (good (nth ns 0)))
 
--- a line with one number that counts something there: `keep=T` a row, `init=k` a kept value (Turned away)
+-- a line with one number that counts something there: `keep=T` a row, `init=k` a kept value, `device=F` a form (Turned away)
 unfoldable pub existingLine : Place → ℕ → Place → List ℕ → Judged ℕ
 existingLine wanted there k ns =
     demand (stands wanted k ns) Malformed

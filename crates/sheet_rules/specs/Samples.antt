@@ -1,4 +1,4 @@
--- The two sheets of document 01 as texts, and how to vary them (One sheet in full). Stands on Keys, for the bytes of a text.
+-- The two sheets of document 01 as texts, one with devices, and how to vary them (One sheet in full; document 02, order 7). Stands on Keys, for the bytes of a text.
 use Prim.Native.Nat.{ℕ, pred}
 use Prim.Native.String.{String}
 use mathlib.Core.List.{List, [], _∷_, _++_}
@@ -56,4 +56,36 @@ L =
     ∷ "new=0"
     ∷ "new=1"
     ∷ "call=1,1,0"
+    ∷ []
+
+-- D, a scale and a valve as devices, and a clerk that main gives the scale (document 02, order 7)
+abbrev pub D : List String
+D =
+    "types=4"
+    ∷ "type=0,0"
+    ∷ "type=1,1"
+    ∷ "def=1,0,0"
+    ∷ "type=1,1"
+    ∷ "def=2,0,0"
+    ∷ "type=1,1"
+    ∷ "def=3,0,0"
+    ∷ "forms=4"
+    ∷ "form=0,0"
+    ∷ "form=1,0"
+    ∷ "body=1"
+    ∷ "copy=1"
+    ∷ "form=2,0"
+    ∷ "body=1"
+    ∷ "copy=1"
+    ∷ "form=3,1"
+    ∷ "keep=1"
+    ∷ "body=1"
+    ∷ "call=2,1,1"
+    ∷ "devices=2"
+    ∷ "device=1"
+    ∷ "device=2"
+    ∷ "main=3"
+    ∷ "new=0"
+    ∷ "new=3,0"
+    ∷ "call=3,3,2"
     ∷ []

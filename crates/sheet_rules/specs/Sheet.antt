@@ -1,4 +1,4 @@
--- What a sheet says, as a value: rows, forms and main (document 01, The sheet). Stands on the shared types alone.
+-- What a sheet says, as a value: rows, forms, devices and main (document 01, The sheet; document 02, order 7). Stands on the shared types alone.
 use Prim.Native.Nat.{ℕ, _+_}
 use mathlib.Core.Bool.{Bool, false}
 use mathlib.Core.List.{List, [], _∷_}
@@ -85,16 +85,14 @@ pub record Form : Type 0 where
 abbrev pub formNames : Form → ℕ → Bool
 formNames f v = any (λ p. partNames p v) (f .parts)
 
--- a sheet: its rows, its forms and main's instructions (The sheet)
+-- a sheet: its rows, its forms, its devices and main's instructions. A device is an object that is there at the start, in the slot of
+-- main's of its number, and is given by its form; reading, typing and the machine take main's first slots from this list (The sheet;
+-- document 02, order 7)
 pub record Sheet : Type 0 where
   pub rows : List Row
   pub forms : List Form
+  pub devices : List ℕ
   pub main : List Instr
-
--- the forms of the objects that are there at the start, which fill main's first slots: none. Reading, typing and the machine take
--- main's first slots from it (The sheet; The machine)
-abbrev pub atStart : List ℕ
-atStart = []
 
 -- what look-ups give for a number that is not there; reading refuses such numbers (Turned away, 7)
 abbrev pub noRow : Row

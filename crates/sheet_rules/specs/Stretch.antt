@@ -30,12 +30,12 @@ begins [] bs = true
 begins (c ∷ cs) [] = false
 begins (c ∷ cs) (b ∷ bs) = eqb c b && begins cs bs
 
--- the line before which the forms end: `main` (order 2)
+-- a line before which the forms end: `devices` or, in a sheet without it, `main` (order 2; order 7)
 abbrev pub endsForms : List ℕ → Bool
-endsForms l = begins (keyText Place.Main) l
+endsForms l = begins (keyText Place.Devices) l || begins (keyText Place.Main) l
 
 -- a line at which a form's lines begin, or before which the forms end; a readable sheet's borders are its `form` lines, in the forms'
--- order, and then that line (order 2)
+-- order, and then those lines (order 2)
 abbrev pub formBorder : List ℕ → Bool
 formBorder l = begins (keyText Place.Form) l || endsForms l
 

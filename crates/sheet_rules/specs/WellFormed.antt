@@ -10,8 +10,8 @@ use Rattle.lists.specs.In.{In}
 use Rattle.lists.specs.Pairwise.{Pairwise}
 use Rattle.sheet_rules.specs.declared.Member.{Member}
 use Rattle.sheet_rules.specs.declared.Member.the-variants.{Method, Field}
-use Rattle.sheet_rules.specs.Limits.{rowLimit, memberLimit, nameLimit, formLimit, keepLimit, bodyLimit, instructionLimit}
-use Rattle.sheet_rules.specs.Sheet.{Row, Instr, namedSlots, Part, init, body, Form, Sheet, atStart, rowAt, sizeOfForms}
+use Rattle.sheet_rules.specs.Limits.{rowLimit, memberLimit, nameLimit, formLimit, keepLimit, deviceLimit, bodyLimit, instructionLimit}
+use Rattle.sheet_rules.specs.Sheet.{Row, Instr, namedSlots, Part, init, body, Form, Sheet, rowAt, sizeOfForms}
 use Rattle.sheet_rules.specs.RowLines.{nameOf, mentionsBelow, twin}
 use Rattle.sheet_rules.specs.FormLines.{nameAllowed, namesExist}
 
@@ -78,5 +78,7 @@ pub record WellFormed (s : Sheet) : Type 0 where
   pub fewRows : length (s .rows) ≤ rowLimit
   pub forms : (f : Form) → In f (s .forms) → WellFormedForm (s .rows) (length (s .forms)) f
   pub fewForms : length (s .forms) ≤ formLimit
-  pub main : WellFormedBody (length (s .forms)) (length atStart) (s .main)
+  pub devices : (f : ℕ) → In f (s .devices) → f < length (s .forms)
+  pub fewDevices : length (s .devices) ≤ deviceLimit
+  pub main : WellFormedBody (length (s .forms)) (length (s .devices)) (s .main)
   pub size : sizeOfForms (s .forms) + length (s .main) ≤ instructionLimit

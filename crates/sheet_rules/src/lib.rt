@@ -44,6 +44,8 @@ pub enum Place {
     Keep,
     Init,
     Body,
+    Devices,
+    Device,
     Main,
     Instruction { operation: Operation },
     Nowhere,
@@ -57,7 +59,7 @@ pub enum Lack {
     Unmet { name: u8 },
 }
 
-// Why a call is refused, in the order of the paper's numbers 1 to 13. A misfit says what is lacking.
+// Why a call is refused, in the order of the paper's numbers 1 to 14. A misfit says what is lacking.
 pub enum Reason {
     BufferTooShort,
     TextTooLong,
@@ -72,6 +74,7 @@ pub enum Reason {
     NoHolder,
     CircularCall,
     BeyondCount,
+    WrongDevice,
 }
 
 // The judgement of a sheet: accepted, or refused with the reason and the line at fault.

@@ -1,8 +1,11 @@
--- The addresses of forms and instructions, without the clamps: where the code reads them. Assumes nothing.
+-- The addresses of devices, forms and instructions, without the clamps: where the code reads them. Assumes nothing.
 use Prim.Native.Nat.{ℕ, _+_, _*_, _<_}
 use native.Mathlib.Omega.{arith}
 use mathlib.Core.Path.{_≡_}
-use Rattle.table.specs.Layout.{formAddress, keepAddress, partAddress, instrAddress}
+use Rattle.table.specs.Layout.{deviceAddress, formAddress, keepAddress, partAddress, instrAddress}
+
+pub device-address : (i : ℕ) → i < 8 → 5 + i ≡ deviceAddress i
+device-address i h = omega arith
 
 pub form-address : (f : ℕ) → f < 64 → 2320 + 36 * f ≡ formAddress f
 form-address f h = omega arith

@@ -2,11 +2,13 @@
 use Prim.Native.Nat.{_+_, _<_}
 use native.Mathlib.Omega.{arith}
 use mathlib.Core.Path.{_≡_, refl}
-use Rattle.table.specs.Layout.{mainCountAt, rowAddress, memberAddress, formAddress, keepAddress, partAddress, instrAddress, poolAddress, tableEnd, fitAddress, placeAddress, slotRowAddress, objectAddress, keptAddress, fieldAddress, frameAddress, slotAddress, stateEnd, markAddress, codeNotesAt, marksEnd, formNotesAddress, notesEnd, workSize}
+use Rattle.table.specs.Layout.{mainCountAt, deviceCountAt, deviceAddress, rowAddress, memberAddress, formAddress, keepAddress, partAddress, instrAddress, poolAddress, tableEnd, fitAddress, placeAddress, slotRowAddress, objectAddress, keptAddress, fieldAddress, frameAddress, slotAddress, stateEnd, markAddress, codeNotesAt, marksEnd, formNotesAddress, notesEnd, workSize}
 
 -- the parts, one after another
 pub record Planned : Type 0 where
-  pub counts : mainCountAt < rowAddress 0
+  pub counts : mainCountAt + 1 ≡ deviceCountAt
+  pub deviceCount : deviceCountAt + 1 ≡ deviceAddress 0
+  pub devices : deviceAddress 7 < rowAddress 0
   pub rows : rowAddress 63 + 36 ≡ formAddress 0
   pub forms : formAddress 63 + 36 ≡ instrAddress 0
   pub instrs : instrAddress 1023 + 11 ≡ tableEnd
@@ -34,7 +36,9 @@ pub record Planned : Type 0 where
 pub planned : Planned
 planned =
     record {
-      counts = omega arith;
+      counts = refl;
+      deviceCount = refl;
+      devices = omega arith;
       rows = refl;
       forms = refl;
       instrs = refl;

@@ -12,7 +12,7 @@ use Rattle.lists.proofs.TabLaws.{length-tab, getD-tab}
 use Rattle.sheet_rules.specs.Limits.{keepLimit}
 use Rattle.sheet_rules.specs.Sheet.{Row, Part, init, Form, noRow, noMember, noForm, rowAt, formAt}
 use Rattle.sheet_rules.specs.WellFormed.{WellFormedRow, PartOf, WellFormedForm, WellFormed}
-use Rattle.table.specs.Layout.{rowCountAt, formCountAt, mainStartAt, mainCountAt, rowAddress, formAddress, keepAddress, tableEnd}
+use Rattle.table.specs.Layout.{rowCountAt, formCountAt, mainStartAt, mainCountAt, deviceCountAt, deviceAddress, rowAddress, formAddress, keepAddress, tableEnd}
 use Rattle.table.specs.View.{cell, memberIn, rowIn, rowsIn, instrIn, instrsIn, partIn, partsIn, keepsIn, formIn, sheetIn}
 use Rattle.table.specs.Only.{Only}
 use Rattle.table.specs.Ready.{Ready}
@@ -124,6 +124,19 @@ module _ (w : List ℕ) where
     part-there j k =
         let n : length ((formAt (sheetIn w) f) .parts) ≡ cell w (formAddress f + 2) = ap length (parts-are f l) ∙ length-tab (partIn w f) (cell w (formAddress f + 2)) in
         ap (λ (ps : List Part). getD ps j (init 0)) (parts-are f l) ∙ getD-tab (partIn w f) (cell w (formAddress f + 2)) j (init 0) (omega arith)
+
+  -- devices
+
+  pub devices-length : length ((sheetIn w) .devices) ≡ cell w deviceCountAt
+  unfolding sheetIn
+  devices-length = length-tab (λ i. cell w (deviceAddress i)) (cell w deviceCountAt)
+
+  pub device-there : (i : ℕ) → i < length ((sheetIn w) .devices) → getD ((sheetIn w) .devices) i 0 ≡ cell w (deviceAddress i)
+  unfolding sheetIn
+  device-there i h = getD-tab (λ k. cell w (deviceAddress k)) (cell w deviceCountAt) i 0 (omega (arith, devices-length))
+
+  pub devices-few : Whole w → length ((sheetIn w) .devices) ≤ 8
+  devices-few h = h .sheet .fewDevices
 
   -- main
 

@@ -12,8 +12,8 @@ use Rattle.lists.proofs.TabLaws.{tab-ext}
 use Rattle.sheet_rules.specs.declared.Member.{Member}
 use Rattle.sheet_rules.specs.Sheet.{Row, init, body}
 use Rattle.sheet_rules.specs.RowLines.{kindOf}
-use Rattle.table.specs.Layout.{rowCountAt, formCountAt, mainStartAt, mainCountAt, rowAddress, memberAddress, formAddress, keepAddress, partAddress, instrAddress, numberCountAddress, numberAddress, tableEnd}
-use Rattle.table.specs.View.{cell, memberFrom, memberIn, membersIn, rowIn, rowsIn, numbersIn, instrFrom, instrIn, instrsIn, partFrom, partIn, keepsIn, partsIn, formIn, formsIn, sheetIn}
+use Rattle.table.specs.Layout.{rowCountAt, formCountAt, mainStartAt, mainCountAt, deviceCountAt, deviceAddress, rowAddress, memberAddress, formAddress, keepAddress, partAddress, instrAddress, numberCountAddress, numberAddress, tableEnd}
+use Rattle.table.specs.View.{cell, memberFrom, memberIn, membersIn, rowIn, rowsIn, numbersIn, instrFrom, instrIn, instrsIn, partFrom, partIn, keepsIn, partsIn, formIn, formsIn, devicesIn, sheetIn}
 use Rattle.table.specs.Only.{Only}
 use Rattle.table.specs.Told.{newSlots}
 
@@ -156,9 +156,12 @@ module _ (w w′ : List ℕ) (h : SameTable w w′) where
   pub formIn-same : (f : ℕ) → formIn w′ f ≡ formIn w f
   formIn-same f = form-same w w′ f (λ k l u. h k (omega arith)) (λ j u. partIn-same f j)
 
+  pub devicesIn-same : (n : ℕ) → devicesIn w′ n ≡ devicesIn w n
+  devicesIn-same n = tab-ext (λ i. cell w′ (deviceAddress i)) (λ i. cell w (deviceAddress i)) n (λ i k. h (deviceAddress i) (omega arith))
+
   pub sheetIn-same : sheetIn w′ ≡ sheetIn w
   unfolding sheetIn
-  sheetIn-same = λ p. record { rows = rows p; forms = forms p; main = main p }
+  sheetIn-same = λ p. record { rows = rows p; forms = forms p; devices = devices p; main = main p }
     where
       rows : rowsIn w′ (cell w′ rowCountAt) ≡ rowsIn w (cell w rowCountAt)
       rows = ap (λ (n : ℕ). rowsIn w′ n) (h rowCountAt (omega arith)) ∙ rowsIn-same (cell w rowCountAt)
@@ -167,6 +170,9 @@ module _ (w w′ : List ℕ) (h : SameTable w w′) where
       forms =
           ap (λ (n : ℕ). formsIn w′ n) (h formCountAt (omega arith))
           ∙ tab-ext (formIn w′) (formIn w) (cell w formCountAt) (λ f k. formIn-same f)
+
+      devices : devicesIn w′ (cell w′ deviceCountAt) ≡ devicesIn w (cell w deviceCountAt)
+      devices = ap (λ (n : ℕ). devicesIn w′ n) (h deviceCountAt (omega arith)) ∙ devicesIn-same (cell w deviceCountAt)
 
       main : instrsIn w′ (cell w′ mainStartAt) (cell w′ mainCountAt) ≡ instrsIn w (cell w mainStartAt) (cell w mainCountAt)
       main =

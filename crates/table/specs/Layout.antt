@@ -16,6 +16,16 @@ mainStartAt = 2
 abbrev pub mainCountAt : ℕ
 mainCountAt = 3
 
+-- how many devices there are, and the forms of up to 8
+abbrev pub deviceCountAt : ℕ
+deviceCountAt = 4
+
+abbrev pub deviceAddress : ℕ → ℕ
+deviceAddress i = 5 + min i 7
+
+abbrev pub deviceEnd : ℕ → ℕ
+deviceEnd i = deviceAddress i + 1
+
 -- 64 rows of 36: kind, number of members, two to spare, and 8 members of 4 (kind of member, name, and one or two rows)
 abbrev pub rowAddress : ℕ → ℕ
 rowAddress i = 16 + 36 * min i 63
@@ -144,7 +154,7 @@ marksEnd = 27772
 abbrev pub formNotesAddress : ℕ → ℕ
 formNotesAddress f = 27772 + 44 * min f 63
 
--- and then room to spare, for devices, from here to the end
+-- and then room to spare, from here to the end
 abbrev pub notesEnd : ℕ
 notesEnd = 30588
 

@@ -13,7 +13,7 @@ use Rattle.sheet_rules.specs.declared.Operation.the-variants.{New, Call, Get, P
 use Rattle.sheet_rules.specs.Sheet.{Row, Instr, new, call, get, put, copy, Part, init, body, Form, Sheet}
 use Rattle.sheet_rules.specs.Reader.{nth}
 use Rattle.sheet_rules.specs.RowLines.{kindOf}
-use Rattle.table.specs.Layout.{rowCountAt, formCountAt, mainStartAt, mainCountAt, rowAddress, memberAddress, memberCountAddress, formAddress, keepAddress, partAddress, keepCountAddress, partCountAddress, bodyStartAddress, bodySizeAddress, instrAddress, numberCountAddress, numberAddress}
+use Rattle.table.specs.Layout.{rowCountAt, formCountAt, mainStartAt, mainCountAt, deviceCountAt, deviceAddress, rowAddress, memberAddress, memberCountAddress, formAddress, keepAddress, partAddress, keepCountAddress, partCountAddress, bodyStartAddress, bodySizeAddress, instrAddress, numberCountAddress, numberAddress}
 
 -- the number at a place; 0 past the end
 abbrev pub cell : List ℕ → ℕ → ℕ
@@ -102,11 +102,16 @@ formIn w f =
 abbrev pub formsIn : List ℕ → ℕ → List Form
 formsIn w n = tab (formIn w) n
 
+-- the forms of the first n devices
+abbrev pub devicesIn : List ℕ → ℕ → List ℕ
+devicesIn w n = tab (λ i. cell w (deviceAddress i)) n
+
 -- the sheet
 unfoldable pub sheetIn : List ℕ → Sheet
 sheetIn w =
     record {
       rows = rowsIn w (cell w rowCountAt);
       forms = formsIn w (cell w formCountAt);
+      devices = devicesIn w (cell w deviceCountAt);
       main = instrsIn w (cell w mainStartAt) (cell w mainCountAt);
     }

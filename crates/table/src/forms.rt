@@ -3,7 +3,7 @@ ghost use mathlib.Core.Path.{_≡_};
 ghost use Prim.Native.Nat.{_≤_, _<_, _+_};
 ghost use lib.ListN.{length, getD};
 ghost use Rattle.sheet_rules.specs.Sheet.{formAt};
-ghost use Rattle.table.specs.Layout.{partCountAddress, bodyStartAddress, bodySizeAddress, workSize};
+ghost use Rattle.table.specs.Layout.{keepAddress, partCountAddress, bodyStartAddress, bodySizeAddress, workSize};
 ghost use Rattle.table.specs.Told.{partTold};
 ghost use Rattle.table.specs.View.{cell as cellOf, partIn, sheetIn};
 ghost use Rattle.table.specs.Whole.{Whole};
@@ -65,6 +65,14 @@ pub fn keep(work: &[u16], f: usize, j: usize) -> u16
         return 0;
     }
     work[2320 + 36 * f + (3 + j)]
+}
+
+// Where the kept rows of form f stand.
+pub fn keep_address(f: usize) -> usize
+    requires { ⌜ f < 64 ⌝ }
+    ensures { λ r. ⌜ r ≡ keepAddress f 0 ⌝ }
+{
+    2320 + 36 * f + 3
 }
 
 // Part j of form f.

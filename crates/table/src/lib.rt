@@ -4,6 +4,7 @@ ghost use mathlib.Core.Path.{_≡_};
 ghost use Prim.Native.Nat.{_<_};
 ghost use lib.ListN.{length, set};
 
+pub mod devices;
 pub mod forms;
 pub mod instrs;
 pub mod rows;

@@ -1,8 +1,8 @@
-// What reading stores: the headings of rows and forms, members, kept rows, parts, instructions, and the sheet's counts.
+// What reading stores: the headings of rows and forms, members, parts, instructions, and the sheet's counts.
 ghost use mathlib.Core.Path.{_≡_};
 ghost use Prim.Native.Nat.{_<_, _+_, _≤_};
 ghost use lib.ListN.{length, set};
-ghost use Rattle.table.specs.Layout.{keepAddress, numberAddress, workSize};
+ghost use Rattle.table.specs.Layout.{numberAddress, workSize};
 ghost use Rattle.table.specs.Stores.{rowHeadPut, memberPut, operationPut, threePut, headingPut, partPut, countsPut};
 ghost use Rattle.table.specs.View.{kindTag, operationCode};
 use crate::instrs::instr_address;
@@ -100,14 +100,6 @@ pub fn put_number(work: &mut [u16], p: usize, k: usize, n: u16)
 {
     let at = instr_address(p);
     put(work, at + (2 + k), n);
-}
-
-// Kept row j of form f.
-pub fn put_keep(work: &mut [u16], f: usize, j: usize, row: u16)
-    requires { ⌜ (f < 64) × (j < 8) × (workSize ≤ length (now work)) ⌝ }
-    ensures { λ r. ⌜ now (work .exit) ≡ set (now (work .entry)) (keepAddress f j) row ⌝ }
-{
-    put(work, 2320 + 36 * f + (3 + j), row);
 }
 
 // Part j of form f: 0 and the kept value of an `init`; or 1, where a body's instructions begin, and how many they are.

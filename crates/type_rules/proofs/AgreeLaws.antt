@@ -5,7 +5,7 @@ use native.Mathlib.Omega.{arith}
 use native.Mathlib.Decide.{decLe}
 use mathlib.Core.Path.{_≡_, refl, sym, ap, ap₂, _∙_, subst}
 use mathlib.Core.Bool.{Bool, true, false, cond, _&&_}
-use mathlib.Core.List.{List, [], _∷_, _++_}
+use mathlib.Core.List.{List, [], _∷_, _++_, map}
 use mathlib.Core.Option.{Option, none, some}
 use mathlib.Core.Logic.{_⊎_, inl, inr}
 use lib.Dec.{T, eqb, ltb, ltb→lt, lt→ltb}
@@ -21,7 +21,7 @@ use Rattle.sheet_rules.specs.declared.Reason.the-variants.{Misfit}
 use Rattle.sheet_rules.specs.Sheet.{Row, Instr, new, call, get, put, copy, Part, init, body, Form, Sheet, noRow, noForm, formAt}
 use Rattle.sheet_rules.specs.RowLines.{mentionsBelow}
 use Rattle.sheet_rules.specs.WellFormed.{Mentions, WellFormed}
-use Rattle.type_rules.specs.Typing.{Signature, methodIn, fieldIn, membersAt, Own, ownField, resultOf, rowOr0, slotRow, bodyRows, mainRows, Fault, unless, firstOf, fitFault, slotsFault, callFault, putFault, instrFault, resultFault, codeFaults, partFaults, partsFaults, keepFaults, formFaults, formsFaults, lineFaults, typedInstr, typedLines}
+use Rattle.type_rules.specs.Typing.{Signature, methodIn, fieldIn, membersAt, Own, ownField, resultOf, rowOr0, slotRow, bodyRows, mainRows, Fault, unless, firstOf, fitFault, slotsFault, callFault, putFault, instrFault, resultFault, codeFaults, partFaults, partsFaults, keepFaults, formFaults, formsFaults, devicesFaults, lineFaults, typedInstr, typedLines}
 use Rattle.type_rules.proofs.TypingLaws.{result-row}
 
 -- what holds of a list's elements, and of what stands in where there is none, holds of all that is looked up
@@ -108,6 +108,10 @@ module _ {s : Sheet} (w : WellFormed s) where
       looked-up (λ (x : Form). Here (x .row) × AllHere (x .keeps)) (s .forms) noForm (w .someRows, λ a i. absurd (in-nil i))
       (λ k q. let x = w .forms (formAt s k) (in-getD (s .forms) k noForm q) in (x .row, x .keeps))
 
+  forms-here : (fs : List ℕ) → AllHere (map (λ f. (formAt s f) .row) fs)
+  forms-here [] = λ a i. absurd (in-nil i)
+  forms-here (f ∷ fs) = here-cons (form-here f .0) (forms-here fs)
+
   slot-here : (own : Own) (rows : List ℕ) → AllHere rows → (i : Instr) → Here (slotRow s own rows i)
   slot-here own rows all (new k ss) = form-here k .0
   slot-here own rows all (call o n a) = method-here (membersAt s (getD rows o 0)) (members-here (getD rows o 0)) n .1
@@ -192,9 +196,15 @@ module _ {s : Sheet} (w : WellFormed s) where
         let p = h x (here refl) in
         ap₂ _++_ (form-agree n x (p .0) (p .1)) (forms-agree (suc n) xs (λ y i. h y (there i)))
 
+    devices-agree : (ds : List ℕ) → devicesFaults (typedLines f s) ds ≡ devicesFaults (typedLines g s) ds
+    unfolding devicesFaults
+    devices-agree [] = refl
+    devices-agree (d ∷ ds) = refl
+
     -- the faults of a sheet's lines depend on the test only at rows that the sheet has
     pub faults-agree : lineFaults (typedLines f s) s ≡ lineFaults (typedLines g s) s
     unfolding lineFaults
     faults-agree =
-        ap₂ (λ (es is : List Fault). es ++ (none ∷ is)) (forms-agree 0 (s .forms) (λ x i. (w .forms x i .row, w .forms x i .keeps)))
-        (instrs-agree none none (w .someRows) (mainRows s) (λ a i. absurd (in-nil i)) (s .main))
+        ap₂ _++_ (forms-agree 0 (s .forms) (λ x i. (w .forms x i .row, w .forms x i .keeps)))
+        (ap₂ (λ (es is : List Fault). es ++ (none ∷ is)) (devices-agree (s .devices))
+        (instrs-agree none none (w .someRows) (mainRows s) (forms-here (s .devices)) (s .main)))

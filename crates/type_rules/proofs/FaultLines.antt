@@ -1,5 +1,5 @@
 -- Where a verdict's line stands: by any judge of lines, and so by typing's, the line of a text that is refused is the line of the form,
--- kept row, part or instruction at fault. Assumes nothing.
+-- kept row, part, device or instruction at fault. Assumes nothing.
 use Prim.Native.Nat.{ℕ, suc, pred, _+_, _<_}
 use native.Mathlib.Omega.{arith}
 use mathlib.Core.Path.{_≡_, refl, sym, ap, _∙_, subst}
@@ -21,19 +21,20 @@ use Rattle.sheet_rules.specs.Lines.{Line, line, torn, linesOf}
 use Rattle.sheet_rules.specs.Sheet.{Row, Instr, Part, init, body, Form, Sheet, noForm, formAt}
 use Rattle.sheet_rules.specs.Reading.{readable, meaning}
 use Rattle.sheet_rules.specs.WellFormed.{PartOf, field, method, WellFormed}
-use Rattle.sheet_rules.specs.Print.{memberWritten, rowWritten, rowsWritten, instrWritten, partWritten, partsWritten, keepWritten, formWritten, formsWritten, beforeForms, afterForms}
+use Rattle.sheet_rules.specs.Print.{memberWritten, rowWritten, rowsWritten, instrWritten, partWritten, partsWritten, keepWritten, formWritten, formsWritten, deviceWritten, devicesWritten, beforeForms, afterForms}
 use Rattle.sheet_rules.proofs.ReadingLaws.{readable-wellFormed}
 use Rattle.sheet_rules.proofs.RoundTrip.{readable-lines}
 use Rattle.type_rules.specs.Fit.{fitAnswer}
-use Rattle.type_rules.specs.Typing.{Own, membersAt, bodyRows, mainRows, Fault, rowsAfter, InstrJudge, LineJudge, codeFaults, partFaults, partsFaults, formFaults, formsFaults, lineFaults, typedLines, firstFault, rowLines, firstFormLine, typing}
+use Rattle.type_rules.specs.Typing.{Own, membersAt, bodyRows, mainRows, Fault, rowsAfter, InstrJudge, LineJudge, codeFaults, partFaults, partsFaults, formFaults, formsFaults, devicesFaults, lineFaults, typedLines, firstFault, rowLines, firstFormLine, typing}
 
 -- form f is number n of the sheet's
 pub record FormIs (s : Sheet) (n : ℕ) (f : Form) : Type 0 where
   pub there : n < length (s .forms)
   pub is : formAt s n ≡ f
 
--- what stands on a line, and its fault by a judge of lines: a form's heading, one of its kept rows, one of its parts, an instruction
--- of a body or of main with the rows of the slots before it and the instructions after it; a `body` or `main` line has none
+-- what stands on a line, and its fault by a judge of lines: a form's heading, one of its kept rows, one of its parts, a device, an
+-- instruction of a body or of main with the rows of the slots before it and the instructions after it; a `body`, `devices` or `main`
+-- line has none
 pub data FaultOf (judge : LineJudge) (s : Sheet) : Fault → Line → Type 0 where
   of-form : {n : ℕ} {f : Form} → FormIs s n f → FaultOf judge s (judge .ofForm n f) (line Place.Form (f .row ∷ length (f .keeps) ∷ []))
   of-keep : {n k : ℕ} {f : Form} → FormIs s n f → In k (f .keeps) → FaultOf judge s (judge .ofKeep n f k) (keepWritten k)
@@ -41,6 +42,8 @@ pub data FaultOf (judge : LineJudge) (s : Sheet) : Fault → Line → Type 0 whe
   of-body : (is : List Instr) → FaultOf judge s none (line Place.Body (length is ∷ []))
   of-instr : {n m a r : ℕ} {f : Form} → FormIs s n f → In (Method m a r) (membersAt s (f .row)) → (rows : List ℕ) (i : Instr) (is : List Instr)
       → FaultOf judge s (judge .ofBody n f m r rows i is) (instrWritten i)
+  of-devices : FaultOf judge s none (line Place.Devices (length (s .devices) ∷ []))
+  of-device : {f : ℕ} → In f (s .devices) → FaultOf judge s (judge .ofDevice f) (deviceWritten f)
   of-main : FaultOf judge s none (line Place.Main (length (s .main) ∷ []))
   of-main-instr : (rows : List ℕ) (i : Instr) (is : List Instr) → FaultOf judge s (judge .ofMain rows i is) (instrWritten i)
 
@@ -80,12 +83,23 @@ module _ (judge : LineJudge) (s : Sheet) where
     forms-lines n (f ∷ fs) j =
         pairwise-both (form-lines w (j 0 n (omega arith) (omega arith))) (forms-lines (suc n) fs (λ k m l e. j (suc k) m (omega arith) (omega arith)))
 
+    device-lines : (fs : List ℕ) → ((f : ℕ) → In f fs → In f (s .devices)) → Pairwise (FaultOf judge s) (map (judge .ofDevice) fs) (map deviceWritten fs)
+    device-lines [] j = Pairwise.none
+    device-lines (f ∷ fs) j = pair (of-device (j f (here refl))) (device-lines fs (λ x i. j x (there i)))
+
+    devices-lines : (fs : List ℕ) → fs ≡ s .devices → Pairwise (FaultOf judge s) (devicesFaults judge fs) (devicesWritten fs)
+    unfolding devicesFaults devicesWritten
+    devices-lines [] e = Pairwise.none
+    devices-lines (f ∷ fs) e =
+        pair (subst (λ (n : ℕ). FaultOf judge s none (line Place.Devices (n ∷ []))) (sym (ap length e)) of-devices)
+        (device-lines (f ∷ fs) (λ x i. subst (In x) e i))
+
     -- the faults are those of the lines from the first `form` line on
     pub faults-lines : Pairwise (FaultOf judge s) (lineFaults judge s) (formsWritten (s .forms) ++ afterForms s)
     unfolding lineFaults
     faults-lines =
         pairwise-both (forms-lines 0 (s .forms) (λ k m l e. record { there = omega arith; is = ap (formAt s) (let same : m ≡ k = omega arith in same) }))
-        (pair of-main (code-lines (judge .ofMain) of-main-instr none (mainRows s) (s .main)))
+        (pairwise-both (devices-lines (s .devices) refl) (pair of-main (code-lines (judge .ofMain) of-main-instr none (mainRows s) (s .main))))
 
 -- THE LINE OF A REFUSAL
 
@@ -112,7 +126,7 @@ unfolding rowsWritten rowLines
 rows-count [] = refl
 rows-count (a ∷ bs) = omega (arith, length-append (rowWritten a) (rowsWritten bs), rows-count bs, length-map (a .members) memberWritten)
 
--- by any judge, line n of a text whose first fault is on line n is that of the form, kept row, part or instruction whose fault it is
+-- by any judge, line n of a text whose first fault is on line n is that of the form, kept row, part, device or instruction whose fault it is
 pub fault-line : {judge : LineJudge} (text : List ℕ) {s : Sheet} → meaning text ≡ readable s → {r : Reason} {n : ℕ} → firstFault (firstFormLine s) (lineFaults judge s) ≡ Refused r n
     → FaultOf judge s (some r) (getD (linesOf text) (pred n) torn)
 fault-line {judge} text {s} e {r} {n} t =

@@ -15,11 +15,11 @@ use Rattle.sheet_rules.specs.declared.FitAnswer.{FitAnswer}
 use Rattle.sheet_rules.specs.declared.FitAnswer.the-variants.{Yes, WrongKind, Unmet}
 use Rattle.sheet_rules.specs.declared.Lack.{Lack}
 use Rattle.sheet_rules.specs.declared.Reason.{Reason}
-use Rattle.sheet_rules.specs.declared.Reason.the-variants.{ImpureForm, Misfit}
+use Rattle.sheet_rules.specs.declared.Reason.the-variants.{ImpureForm, Misfit, WrongDevice}
 use Rattle.sheet_rules.specs.declared.Verdict.the-variants.{Refused}
 use Rattle.sheet_rules.specs.Answers.{answerLack}
 use Rattle.sheet_rules.specs.Lines.{Line, torn, linesOf}
-use Rattle.sheet_rules.specs.Sheet.{Instr, new, call, get, put, copy, Sheet, rowAt, formAt}
+use Rattle.sheet_rules.specs.Sheet.{Instr, new, call, get, put, copy, Sheet, rowAt, formAt, rowOfForm}
 use Rattle.sheet_rules.specs.Reading.{readable, meaning}
 use Rattle.sheet_rules.specs.Print.{instrWritten}
 use Rattle.sheet_rules.specs.WellFormed.{WellFormed}
@@ -28,7 +28,7 @@ use Rattle.type_rules.specs.Fit.{fitAnswer}
 use Rattle.type_rules.specs.Says.{Lacking, lacks-slots, lacks-fit}
 use Rattle.type_rules.specs.Typing.{Signature, Own, methodIn, membersAt, ownField, slotRows, lastRow, Fault, unless, firstOf, fitFault, slotsFault, newFault, callFault, getFault, putFault, instrFault, resultFault, isPure, hasField, typedInstr, typedLines, typing, verdictOn, verdict}
 use Rattle.type_rules.proofs.AnswerLaws.{answer-exactly}
-use Rattle.type_rules.proofs.FaultLines.{FaultOf, of-form, of-keep, of-init, of-body, of-instr, of-main, of-main-instr, refused-line}
+use Rattle.type_rules.proofs.FaultLines.{FaultOf, of-form, of-keep, of-init, of-body, of-instr, of-devices, of-device, of-main, of-main-instr, refused-line}
 
 -- the first of two faults is one of them
 one-of : (f g : Fault) {r : Reason} → firstOf f g ≡ some r → (f ≡ some r) ⊎ (g ≡ some r)
@@ -44,6 +44,10 @@ carried (Unmet n) e = cc
 impure : (b : Bool) {l : Lack} {A : Type 0} → unless b ImpureForm ≡ some (Misfit l) → A
 impure true e = clash (cc)
 impure false e = clash (cc)
+
+no-device : (b : Bool) {l : Lack} {A : Type 0} → unless b WrongDevice ≡ some (Misfit l) → A
+no-device true e = clash (cc)
+no-device false e = clash (cc)
 
 -- of the slots of a `new` the first that misfits is the fault: what is carried is its answer, and each slot before it fits
 pub record FirstAt (fit : ℕ → ℕ → FitAnswer) (rows vs bs : List ℕ) (r : Reason) : Type 0 where
@@ -137,6 +141,8 @@ module _ {s : Sheet} (w : WellFormed s) where
   line-lacks (of-init {r = r} {k = k} {f = f} h i) e = value-lacks (getD (f .keeps) k 0) r e
   line-lacks (of-body is) e = clash (cc)
   line-lacks (of-instr {r = r} {f = f} h i rows x is) e = typed-lacks (some (f .row)) (some r) rows x is e
+  line-lacks of-devices e = clash (cc)
+  line-lacks (of-device {f = f} i) e = no-device (eqb (length ((formAt s f) .keeps)) 0 && not (isPure ((rowOfForm s f) .kind))) e
   line-lacks of-main e = clash (cc)
   line-lacks (of-main-instr rows x is) e = typed-lacks none none rows x is e
 

@@ -4,9 +4,9 @@ use Rattle.type_rules.specs.Fit.{hasMatch, membersAnswer, fitUpTo, fitAn
 use Rattle.type_rules.specs.FitQuestion.{fitReply, fitTold}
 use Rattle.type_rules.specs.Passed.{upTo, lastName}
 use Rattle.type_rules.specs.Walk.{walk}
-use Rattle.type_rules.specs.Typing.{methodIn, fieldIn, slotRows, slotsFault, hasField, codeFaults, partsFaults, formsFaults, lineFaults, firstFault, rowLines, typing, verdict}
+use Rattle.type_rules.specs.Typing.{methodIn, fieldIn, slotRows, slotsFault, hasField, codeFaults, partsFaults, formsFaults, devicesFaults, lineFaults, firstFault, rowLines, typing, verdict}
 use Rattle.sheet_rules.proofs.Opened.{reading}
 
 unfoldable pub judging : Unit {0}
-unfolding hasMatch membersAnswer fitUpTo fitAnswer fits fitReply upTo lastName fitTold walk methodIn fieldIn slotRows slotsFault hasField codeFaults partsFaults formsFaults lineFaults firstFault rowLines typing verdict reading
+unfolding hasMatch membersAnswer fitUpTo fitAnswer fits fitReply upTo lastName fitTold walk methodIn fieldIn slotRows slotsFault hasField codeFaults partsFaults formsFaults devicesFaults lineFaults firstFault rowLines typing verdict reading
 judging = tt

@@ -6,29 +6,29 @@ use mathlib.Core.Bool.{Bool, true, false, not, _&&_}
 use mathlib.Core.List.{List, [], _∷_, _++_, map}
 use mathlib.Core.Option.{Option, none, some}
 use mathlib.Core.Logic.{_⊎_, inl, inr, _↔_}
-use lib.Dec.{T}
+use lib.Dec.{T, eqb}
 use lib.ListN.{length, getD}
 use borrow.Author.Tests.{eq-eqb}
 use Rattle.lists.specs.In.{In, here, there}
 use Rattle.lists.specs.Pairwise.{Pairwise, pair}
 use Rattle.lists.proofs.InLaws.{in-nil, in-cases}
 use Rattle.lists.proofs.PairwiseLaws.{pairwise-length}
-use Rattle.lists.proofs.Tests.{T→true}
+use Rattle.lists.proofs.Tests.{and-intro, T→true}
 use Rattle.sheet_rules.specs.declared.FitAnswer.{FitAnswer}
 use Rattle.sheet_rules.specs.declared.FitAnswer.the-variants.{Yes, WrongKind, Unmet}
 use Rattle.sheet_rules.specs.declared.Lack.{Lack}
 use Rattle.sheet_rules.specs.declared.Member.{Member}
 use Rattle.sheet_rules.specs.declared.Reason.{Reason}
-use Rattle.sheet_rules.specs.declared.Reason.the-variants.{ImpureForm, Misfit}
+use Rattle.sheet_rules.specs.declared.Reason.the-variants.{ImpureForm, Misfit, WrongDevice}
 use Rattle.sheet_rules.specs.declared.Verdict.the-variants.{Accepted}
 use Rattle.sheet_rules.specs.Answers.{isYes}
-use Rattle.sheet_rules.specs.Sheet.{Row, Instr, Part, Form, Sheet, rowAt, formAt}
+use Rattle.sheet_rules.specs.Sheet.{Row, Instr, Part, Form, Sheet, rowAt, formAt, rowOfForm}
 use Rattle.sheet_rules.specs.Reading.{readable, meaning}
 use Rattle.sheet_rules.specs.WellFormed.{WellFormed}
 use Rattle.sheet_rules.proofs.ReadingLaws.{readable-wellFormed}
 use Rattle.type_rules.specs.Fit.{fitAnswer, fits}
-use Rattle.type_rules.specs.Typing.{Own, resultOf, rowOr0, slotRow, slotRows, lastRow, mainRows, Fault, unless, firstOf, fitFault, slotsFault, newFault, callFault, getFault, putFault, instrFault, resultFault, isPure, hasField, keepFault, LineJudge, codeFaults, partFaults, partsFaults, keepFaults, formFaults, formsFaults, lineFaults, typedInstr, typedLines, firstFault, firstFormLine, typing, verdictOn, verdict}
-use Rattle.type_rules.specs.Typed.{SlotFits, InstrTyped, typed-new, typed-call, typed-get, typed-put, typed-copy, ResultFits, undeclared, declared, CodeTyped, end, next, PartTyped, typed-init, typed-body, FormTyped, Typed}
+use Rattle.type_rules.specs.Typing.{Own, resultOf, rowOr0, slotRow, slotRows, lastRow, Fault, unless, firstOf, fitFault, slotsFault, newFault, callFault, getFault, putFault, instrFault, resultFault, isPure, hasField, keepFault, deviceFault, LineJudge, codeFaults, partFaults, partsFaults, keepFaults, formFaults, formsFaults, devicesFaults, mainFaults, lineFaults, typedInstr, typedLines, firstFault, firstFormLine, typing, verdictOn, verdict}
+use Rattle.type_rules.specs.Typed.{SlotFits, InstrTyped, typed-new, typed-call, typed-get, typed-put, typed-copy, ResultFits, undeclared, declared, CodeTyped, end, next, PartTyped, typed-init, typed-body, FormTyped, DeviceTyped, Typed}
 use Rattle.type_rules.proofs.TypingLaws.{Faultless, lastRow-snoc, result-row, accepted-typed}
 
 -- LINES
@@ -176,12 +176,34 @@ module _ (s : Sheet) where
       faultless-append (formFaults ofTyping s n f) (formsFaults ofTyping s (suc n) fs) (form-faultless n f (h f (here refl)))
       (forms-faultless (suc n) fs (λ g i. h g (there i)))
 
+  none-kept : (ks : List ℕ) → ks ≡ [] → T (eqb (length ks) 0)
+  none-kept ks e = subst (λ (xs : List ℕ). T (eqb (length xs) 0)) (sym e) tt
+
+  not-pure : (b : Bool) → (T b → ⊥) → T (not b)
+  not-pure true h = h tt
+  not-pure false h = tt
+
+  device-faultless : (f : ℕ) → DeviceTyped s f → deviceFault s f ≡ none
+  device-faultless f t =
+      let bare : Bool = eqb (length ((formAt s f) .keeps)) 0 in
+      let pure : Bool = isPure ((rowOfForm s f) .kind) in
+      passed (bare && not pure) WrongDevice (and-intro bare (not pure) (none-kept ((formAt s f) .keeps) (t .keepsNone)) (not-pure pure (t .resource)))
+
+  each-faultless : (fs : List ℕ) → ((f : ℕ) → In f fs → DeviceTyped s f) → Faultless (map (deviceFault s) fs)
+  each-faultless [] h = λ x i. absurd (in-nil i)
+  each-faultless (f ∷ fs) h = faultless-cons (device-faultless f (h f (here refl))) (each-faultless fs (λ g i. h g (there i)))
+
+  devices-faultless : (fs : List ℕ) → ((f : ℕ) → In f fs → DeviceTyped s f) → Faultless (devicesFaults ofTyping fs)
+  unfolding devicesFaults
+  devices-faultless [] h = λ x i. absurd (in-nil i)
+  devices-faultless (f ∷ fs) h = faultless-cons refl (each-faultless (f ∷ fs) h)
+
   pub typed-accepted : Typed s → typing s ≡ Accepted
   unfolding typing lineFaults
   typed-accepted t =
       firstFault-accepts (firstFormLine s) (lineFaults ofTyping s)
-      (faultless-append (formsFaults ofTyping s 0 (s .forms)) (none ∷ codeFaults (ofTyping .ofMain) s none (mainRows s) (s .main))
-      (forms-faultless 0 (s .forms) (t .forms)) (faultless-cons refl (code-faultless (t .main))))
+      (faultless-append (formsFaults ofTyping s 0 (s .forms)) (devicesFaults ofTyping (s .devices) ++ mainFaults ofTyping s) (forms-faultless 0 (s .forms) (t .forms))
+      (faultless-append (devicesFaults ofTyping (s .devices)) (mainFaults ofTyping s) (devices-faultless (s .devices) (t .devices)) (faultless-cons refl (code-faultless (t .main)))))
 
   -- of the sheets that reading gives, the verdict accepts exactly the well-typed ones
   pub accepted-exactly : WellFormed s → (typing s ≡ Accepted) ↔ Typed s

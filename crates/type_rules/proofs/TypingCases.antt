@@ -1,4 +1,4 @@
--- Computed cases of fit and typing: the six rows that document 01 runs as tests, a sheet for each refusal from 8 to 10, and the walk
+-- Computed cases of fit and typing: the six rows that document 01 runs as tests, a sheet for each refusal from 8 to 10 and for 14, and the walk
 -- over lines with other judges than typing's. Assumes nothing.
 use Prim.Native.Nat.{ℕ}
 use Prim.Native.String.{String}
@@ -12,7 +12,7 @@ use Rattle.sheet_rules.specs.declared.Reason.the-variants.{NotDefined, ImpureFo
 use Rattle.sheet_rules.specs.declared.Verdict.{Verdict}
 use Rattle.sheet_rules.specs.Answers.{verdictNumber, verdictLine, verdictLack, lackNumber, lackName}
 use Rattle.sheet_rules.specs.Reading.{meaning}
-use Rattle.sheet_rules.specs.Samples.{textOf, withLine, P}
+use Rattle.sheet_rules.specs.Samples.{textOf, withLine, P, D}
 use Rattle.type_rules.specs.declared.FitReply.{FitReply}
 use Rattle.type_rules.specs.declared.FitReply.the-variants.{Answered, Refused}
 use Rattle.type_rules.specs.FitQuestion.{fitReply}
@@ -186,6 +186,10 @@ with n l = withLine n l kitchen
 abbrev stored : ℕ → String → List String
 stored n l = withLine n l pantry
 
+-- D with one line replaced
+abbrev equipped : ℕ → String → List String
+equipped n l = withLine n l D
+
 abbrev cases : List Case
 cases =
     gives P 0 0
@@ -224,6 +228,20 @@ cases =
     ∷ misfits (withLine 19 "new=2" (stored 14 "copy=2")) 20 2 0
     -- no such part comes before a misfit of the body's result on the same line
     ∷ gives ("types=3" ∷ "type=0,0" ∷ "type=1,1" ∷ "var=1,0" ∷ "type=1,1" ∷ "def=1,0,1" ∷ "forms=1" ∷ "form=2,0" ∷ "body=1" ∷ "get=9" ∷ "main=1" ∷ "new=0" ∷ []) 9 10
+    -- a device's form is pure, or keeps a value: on its own line, after the forms' lines and before main's
+    ∷ gives D 0 0
+    ∷ gives (equipped 22 "device=0") 14 22
+    ∷ gives (equipped 23 "device=3") 14 23
+    ∷ gives (withLine 22 "device=3" (equipped 23 "device=0")) 14 22
+    ∷ gives (withLine 20 "call=2,2,1" (equipped 22 "device=0")) 9 20
+    ∷ gives (withLine 27 "call=3,2,2" (equipped 23 "device=0")) 14 23
+    ∷ gives (withLine 27 "call=9,3,2" (equipped 23 "device=0")) 7 27
+    -- main's first slots have the devices' rows: scale and valve have their own methods, and the clerk keeps a scale
+    ∷ gives (equipped 27 "call=0,1,2") 0 0
+    ∷ gives (equipped 27 "call=0,2,2") 9 27
+    ∷ gives (equipped 27 "call=1,2,2") 0 0
+    ∷ misfits (equipped 26 "new=3,1") 26 3 1
+    ∷ gives (equipped 23 "device=1") 0 0
     -- the first line at fault; and the whole sheet is read before any line is typed
     ∷ gives (withLine 34 "get=1" (with 24 "keep=1")) 8 24
     ∷ gives (withLine 34 "call=9,1,1" (with 24 "keep=1")) 7 34
@@ -247,6 +265,7 @@ asking form method =
       ofKeep = λ n f k. none;
       ofInit = λ n f m r k. none;
       ofBody = λ n f m r rows i is. unless (method m) NoSuchMember;
+      ofDevice = λ f. none;
       ofMain = λ rows i is. none;
     }
 

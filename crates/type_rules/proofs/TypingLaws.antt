@@ -6,7 +6,7 @@ use mathlib.Core.Bool.{Bool, true, false, not, _&&_}
 use mathlib.Core.List.{List, [], _∷_, _++_, map}
 use mathlib.Core.Option.{Option, none, some}
 use lib.Dec.{T, T-not, eqb, eqb→eq, ltb, ltb→lt}
-use lib.ListN.{length, getD, length-append}
+use lib.ListN.{length, getD, length-append, length-map}
 use lib.Seq.{getD-at}
 use Rattle.lists.specs.In.{In, here, there}
 use Rattle.lists.specs.Pairwise.{Pairwise, pair}
@@ -18,18 +18,18 @@ use Rattle.sheet_rules.specs.declared.Lack.{Lack}
 use Rattle.sheet_rules.specs.declared.Member.{Member}
 use Rattle.sheet_rules.specs.declared.Member.the-variants.{Method, Field}
 use Rattle.sheet_rules.specs.declared.Reason.{Reason}
-use Rattle.sheet_rules.specs.declared.Reason.the-variants.{ImpureForm, Misfit}
+use Rattle.sheet_rules.specs.declared.Reason.the-variants.{ImpureForm, Misfit, WrongDevice}
 use Rattle.sheet_rules.specs.declared.Verdict.{Verdict}
 use Rattle.sheet_rules.specs.declared.Verdict.the-variants.{Accepted, Refused}
 use Rattle.sheet_rules.specs.Answers.{isYes}
-use Rattle.sheet_rules.specs.Sheet.{Row, Instr, new, call, get, put, copy, Part, init, body, Form, Sheet, rowAt, formAt}
+use Rattle.sheet_rules.specs.Sheet.{Row, Instr, new, call, get, put, copy, Part, init, body, Form, Sheet, rowAt, formAt, rowOfForm}
 use Rattle.sheet_rules.specs.FormLines.{allBelow, namesExist}
 use Rattle.sheet_rules.specs.Reading.{Meaning, readable, unreadable}
 use Rattle.sheet_rules.specs.WellFormed.{Scoped, WellFormedBody, PartOf, WellFormedForm, WellFormed}
 use Rattle.sheet_rules.proofs.FormLinesLaws.{first-below, others-below}
 use Rattle.type_rules.specs.Fit.{fitAnswer, fits}
-use Rattle.type_rules.specs.Typing.{Signature, methodIn, membersAt, Own, ownField, resultOf, rowOr0, slotRow, slotRows, lastRow, bodyRows, mainRows, Fault, unless, firstOf, fitFault, slotsFault, callFault, getFault, putFault, instrFault, resultFault, isPure, hasField, keepFault, LineJudge, codeFaults, partFaults, partsFaults, keepFaults, formFaults, formsFaults, lineFaults, typedInstr, typedLines, firstFault, firstFormLine, typing, verdictOn, ifAccepted, acceptedOn}
-use Rattle.type_rules.specs.Typed.{SlotFits, InstrTyped, typed-new, typed-call, typed-get, typed-put, typed-copy, ResultFits, undeclared, declared, CodeTyped, end, next, PartTyped, typed-init, typed-body, FormTyped, Typed}
+use Rattle.type_rules.specs.Typing.{Signature, methodIn, membersAt, Own, ownField, resultOf, rowOr0, slotRow, slotRows, lastRow, bodyRows, mainRows, Fault, unless, firstOf, fitFault, slotsFault, callFault, getFault, putFault, instrFault, resultFault, isPure, hasField, keepFault, deviceFault, LineJudge, codeFaults, partFaults, partsFaults, keepFaults, formFaults, formsFaults, devicesFaults, mainFaults, lineFaults, typedInstr, typedLines, firstFault, firstFormLine, typing, verdictOn, ifAccepted, acceptedOn}
+use Rattle.type_rules.specs.Typed.{SlotFits, InstrTyped, typed-new, typed-call, typed-get, typed-put, typed-copy, ResultFits, undeclared, declared, CodeTyped, end, next, PartTyped, typed-init, typed-body, FormTyped, DeviceTyped, Typed}
 
 -- lines without a fault
 abbrev pub Faultless : List Fault → Type 0
@@ -217,20 +217,58 @@ module _ (s : Sheet) where
   forms-typed n (g ∷ fs) w h f (there j) =
       forms-typed (suc n) fs (λ x i. w x (there i)) (λ x i. h x (in-right (formFaults ofTyping s n g) (formsFaults ofTyping s (suc n) fs) i)) f j
 
+  -- DEVICES
+
+  -- a list of length 0 is empty
+  no-keeps : (ks : List ℕ) → length ks ≡ 0 → ks ≡ []
+  no-keeps [] e = refl
+  no-keeps (k ∷ ks) e = absurd (omega arith)
+
+  device-typed : (f : ℕ) → deviceFault s f ≡ none → DeviceTyped s f
+  device-typed f e =
+      let t = unless-passed (bare && not pure) WrongDevice e in
+      record {
+        resource = T-not pure (and-right bare (not pure) t);
+        keepsNone = no-keeps ((formAt s f) .keeps) (eqb→eq (length ((formAt s f) .keeps)) 0 (and-left bare (not pure) t));
+      }
+    where
+      bare : Bool
+      bare = eqb (length ((formAt s f) .keeps)) 0
+
+      pure : Bool
+      pure = isPure ((rowOfForm s f) .kind)
+
+  each-typed : (fs : List ℕ) → Faultless (map (deviceFault s) fs) → (f : ℕ) → In f fs → DeviceTyped s f
+  each-typed [] h f i = elim i [ ]
+  each-typed (g ∷ fs) h f (here e) = subst (DeviceTyped s) (sym e) (device-typed g (h _ (here refl)))
+  each-typed (g ∷ fs) h f (there i) = each-typed fs (λ x j. h x (there j)) f i
+
+  devices-typed : (fs : List ℕ) → Faultless (devicesFaults ofTyping fs) → (f : ℕ) → In f fs → DeviceTyped s f
+  unfolding devicesFaults
+  devices-typed [] h f i = elim i [ ]
+  devices-typed (g ∷ fs) h f i = each-typed (g ∷ fs) (λ x j. h x (there j)) f i
+
   -- a readable sheet that the verdict accepts is well typed
   pub accepted-typed : WellFormed s → typing s ≡ Accepted → Typed s
   unfolding typing lineFaults
   accepted-typed w e =
       record {
-        forms = forms-typed 0 (s .forms) (w .forms) (λ g j. all g (in-left formLines mainLines j));
-        main = body-typed none none (mainRows s) (s .main) (w .main) (λ g j. all g (in-right formLines mainLines (there j)));
+        forms = forms-typed 0 (s .forms) (w .forms) (λ g j. all g (in-left formLines (deviceLines ++ mainLines) j));
+        devices = devices-typed (s .devices) (λ g j. all g (in-right formLines (deviceLines ++ mainLines) (in-left deviceLines mainLines j)));
+        main =
+            body-typed none none (mainRows s) (s .main)
+            (subst (λ (k : ℕ). WellFormedBody (length (s .forms)) k (s .main)) (sym (length-map (s .devices) (λ f. (formAt s f) .row))) (w .main))
+            (λ g j. all g (in-right formLines (deviceLines ++ mainLines) (in-right deviceLines mainLines (there j))));
       }
     where
       formLines : List Fault
       formLines = formsFaults ofTyping s 0 (s .forms)
 
+      deviceLines : List Fault
+      deviceLines = devicesFaults ofTyping (s .devices)
+
       mainLines : List Fault
-      mainLines = none ∷ codeFaults (ofTyping .ofMain) s none (mainRows s) (s .main)
+      mainLines = mainFaults ofTyping s
 
       all : Faultless (lineFaults ofTyping s)
       all = firstFault-faultless (firstFormLine s) (lineFaults ofTyping s) e

@@ -1,4 +1,4 @@
--- What it means that a sheet is well typed (document 01, Fit and typing), as the facts on which its run rests: every slot that
+-- What it means that a sheet is well typed (document 01, Fit and typing; document 02, order 7), as the facts on which its run rests: every slot that
 -- is named is filled and fits the place that it goes to. TypingLaws proves it of every accepted sheet, TypedLaws the converse.
 -- Stands on Typing.
 use Prim.Native.Nat.{ℕ, _<_}
@@ -11,7 +11,7 @@ use Rattle.lists.specs.In.{In}
 use Rattle.lists.specs.Pairwise.{Pairwise}
 use Rattle.sheet_rules.specs.declared.Member.{Member}
 use Rattle.sheet_rules.specs.declared.Member.the-variants.{Method, Field}
-use Rattle.sheet_rules.specs.Sheet.{Instr, new, call, get, put, copy, Part, init, body, Form, Sheet, rowAt, formAt}
+use Rattle.sheet_rules.specs.Sheet.{Instr, new, call, get, put, copy, Part, init, body, Form, Sheet, rowAt, formAt, rowOfForm}
 use Rattle.type_rules.specs.Fit.{fits}
 use Rattle.type_rules.specs.Typing.{Signature, methodIn, membersAt, Own, ownField, lastRow, bodyRows, mainRows, isPure, hasField}
 
@@ -58,7 +58,13 @@ pub record FormTyped (s : Sheet) (f : Form) : Type 0 where
   pub pure : T (isPure ((rowAt (s .rows) (f .row)) .kind)) → PureForm s f
   pub parts : Pairwise (PartTyped s f) (membersAt s (f .row)) (f .parts)
 
+-- a device is a resource, and its form keeps no value (document 02, order 7)
+pub record DeviceTyped (s : Sheet) (f : ℕ) : Type 0 where
+  pub resource : T (isPure ((rowOfForm s f) .kind)) → ⊥
+  pub keepsNone : (formAt s f) .keeps ≡ []
+
 -- a well-typed sheet (Fit and typing)
 pub record Typed (s : Sheet) : Type 0 where
   pub forms : (f : Form) → In f (s .forms) → FormTyped s f
+  pub devices : (f : ℕ) → In f (s .devices) → DeviceTyped s f
   pub main : CodeTyped s none none (mainRows s) (s .main)

@@ -1,5 +1,5 @@
 -- The typing verdict: a list with the fault, if any, of each line from the first `form` line on, and the first of these
--- (document 01, Fit and typing; Turned away, 8 to 10; document 02, order 3). The list is made by any judge of lines; typing's is one.
+-- (document 01, Fit and typing; Turned away, 8 to 10; document 02, orders 3 and 7). The list is made by any judge of lines; typing's is one.
 -- Stands on Fit and on the sheet; no rule looks at bytes.
 use Prim.Native.Nat.{ℕ, suc, pred, _+_}
 use mathlib.Core.Bool.{Bool, true, false, not, cond, _&&_}
@@ -14,11 +14,11 @@ use Rattle.sheet_rules.specs.declared.Lack.{Lack}
 use Rattle.sheet_rules.specs.declared.Member.{Member}
 use Rattle.sheet_rules.specs.declared.Member.the-variants.{Method, Field}
 use Rattle.sheet_rules.specs.declared.Reason.{Reason}
-use Rattle.sheet_rules.specs.declared.Reason.the-variants.{ImpureForm, NoSuchMember, Misfit}
+use Rattle.sheet_rules.specs.declared.Reason.the-variants.{ImpureForm, NoSuchMember, Misfit, WrongDevice}
 use Rattle.sheet_rules.specs.declared.Verdict.{Verdict}
 use Rattle.sheet_rules.specs.declared.Verdict.the-variants.{Accepted, Refused}
 use Rattle.sheet_rules.specs.Answers.{answerLack}
-use Rattle.sheet_rules.specs.Sheet.{Row, Instr, new, call, get, put, copy, Part, init, body, Form, Sheet, atStart, rowAt, formAt}
+use Rattle.sheet_rules.specs.Sheet.{Row, Instr, new, call, get, put, copy, Part, init, body, Form, Sheet, rowAt, formAt, rowOfForm}
 use Rattle.sheet_rules.specs.Reading.{Meaning, readable, unreadable, meaning}
 use Rattle.type_rules.specs.Fit.{fitAnswer}
 
@@ -94,9 +94,9 @@ lastRow rows = getD rows (pred (length rows)) 0
 abbrev pub bodyRows : Form → ℕ → List ℕ
 bodyRows f argument = f .row ∷ argument ∷ f .keeps
 
--- main's first slots have the rows of the forms at the start (Fit and typing)
+-- main's first slots have the rows of the devices' forms (document 02, order 7)
 abbrev pub mainRows : Sheet → List ℕ
-mainRows s = map (λ f. (formAt s f) .row) atStart
+mainRows s = map (λ f. (formAt s f) .row) (s .devices)
 
 -- THE FAULT OF A LINE
 
@@ -186,19 +186,24 @@ formFault a = unless (not (isPure (a .kind) && hasField (a .members))) ImpureFor
 abbrev pub keepFault : Sheet → Row → ℕ → Fault
 keepFault s a k = unless (not (isPure (a .kind) && not (isPure ((rowAt (s .rows) k) .kind)))) ImpureForm
 
+-- a device's form keeps no value, and its row is a resource (document 02, order 7)
+abbrev pub deviceFault : Sheet → (form : ℕ) → Fault
+deviceFault s f = unless (eqb (length ((formAt s f) .keeps)) 0 && not (isPure ((rowOfForm s f) .kind))) WrongDevice
+
 -- A JUDGE OF LINES
 
 -- a judge of instructions: the fault of one, after slots of the given rows and before the instructions that are left (Turned away)
 abbrev pub InstrJudge : Type 0
 InstrJudge = List ℕ → Instr → List Instr → Fault
 
--- a judge of lines: the fault, if any, of each kind of line, a form's with the form's number in hand; `body` and `main` lines have
--- none (Turned away)
+-- a judge of lines: the fault, if any, of each kind of line, a form's with the form's number in hand; `body`, `devices` and `main`
+-- lines have none (Turned away)
 pub record LineJudge : Type 0 where
   pub ofForm : (number : ℕ) → Form → Fault
   pub ofKeep : (number : ℕ) → Form → (row : ℕ) → Fault
   pub ofInit : (number : ℕ) → Form → (name row kept : ℕ) → Fault
   pub ofBody : (number : ℕ) → Form → (name result : ℕ) → InstrJudge
+  pub ofDevice : (form : ℕ) → Fault
   pub ofMain : InstrJudge
 
 -- the lines of some instructions, each after the slots that those before it leave (Fit and typing)
@@ -234,9 +239,18 @@ unfoldable pub formsFaults : LineJudge → Sheet → ℕ → List Form → List 
 formsFaults judge s n [] = []
 formsFaults judge s n (f ∷ fs) = formFaults judge s n f ++ formsFaults judge s (suc n) fs
 
--- all lines from the first `form` line on: forms, the `main` line, main's instructions (Fit and typing)
+-- the lines of the devices: the `devices` line and each `device` line; a sheet without devices has none (document 02, order 7)
+unfoldable pub devicesFaults : LineJudge → List ℕ → List Fault
+devicesFaults judge [] = []
+devicesFaults judge (f ∷ fs) = none ∷ map (judge .ofDevice) (f ∷ fs)
+
+-- the `main` line and main's instructions (Fit and typing)
+abbrev pub mainFaults : LineJudge → Sheet → List Fault
+mainFaults judge s = none ∷ codeFaults (judge .ofMain) s none (mainRows s) (s .main)
+
+-- all lines from the first `form` line on: forms, devices, main (Fit and typing)
 unfoldable pub lineFaults : LineJudge → Sheet → List Fault
-lineFaults judge s = formsFaults judge s 0 (s .forms) ++ (none ∷ codeFaults (judge .ofMain) s none (mainRows s) (s .main))
+lineFaults judge s = formsFaults judge s 0 (s .forms) ++ (devicesFaults judge (s .devices) ++ mainFaults judge s)
 
 -- TYPING'S OWN JUDGE
 
@@ -253,6 +267,7 @@ typedLines fit s =
       ofKeep = λ n f k. keepFault s (rowAt (s .rows) (f .row)) k;
       ofInit = λ n f m row k. initFault fit f row k;
       ofBody = λ n f m result. typedInstr fit s (some (f .row)) (some result);
+      ofDevice = deviceFault s;
       ofMain = typedInstr fit s none none;
     }
 

@@ -7,6 +7,8 @@ const CLERK: &[u8] = include_bytes!("../../../examples/clerk.sheet");
 const MAKERS: &[u8] = include_bytes!("../../../examples/makers.sheet");
 const SURE: &[u8] = include_bytes!("../../../examples/sure.sheet");
 const CIRCULAR: &[u8] = include_bytes!("../../../examples/circular.sheet");
+const DEVICES: &[u8] = include_bytes!("../../../examples/devices.sheet");
+const WRONG_DEVICE: &[u8] = include_bytes!("../../../examples/refused-14-device.sheet");
 
 #[test]
 fn the_clerk_is_accepted_and_runs() {
@@ -182,6 +184,34 @@ fn more_steps_than_32_bits_have_are_refused() {
     let refusal = given.expect_err("31 times 31, and so on");
     assert_eq!(refusal.reason.number(), 13);
     let words = "refusal 13: the most steps are over 4,294,967,295";
+    assert_eq!(refusal.to_string(), words);
+}
+
+/// A scale is device 0 and a valve device 1; the clerk, object 3, is given the
+/// scale, and nobody but the valve itself holds the valve.
+#[test]
+fn devices_are_there_at_the_start_and_go_where_main_hands_them() {
+    let (mut work, mut held) = (Work::new(), Held::new());
+    let mut holds = |budget, holder| {
+        let given = authority(DEVICES, budget, holder, &mut work, &mut held);
+        given.expect("a holder").to_vec()
+    };
+    assert_eq!([holds(0, 0), holds(0, 1)], [[0], [1]]);
+    assert_eq!(holds(0, MAIN), [0, 1]);
+    assert_eq!(holds(10, 3), [0, 3]);
+    assert_eq!(holds(10, MAIN), []);
+    let given = run(DEVICES, 0, &mut work).expect("accepted");
+    assert_eq!(given.objects, 2);
+}
+
+#[test]
+fn a_wrong_device_is_refused_with_its_line() {
+    let mut work = Work::new();
+    let given = verdict(WRONG_DEVICE, &mut work);
+    assert_eq!(given, refused(Reason::WrongDevice, 23));
+    let refusal = given.expect_err("the clerk keeps a scale");
+    assert_eq!(refusal.reason.number(), 14);
+    let words = "refusal 14 at line 23: a device's form keeps a value or is pure";
     assert_eq!(refusal.to_string(), words);
 }
 

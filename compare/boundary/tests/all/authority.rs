@@ -27,7 +27,7 @@ impl Entry {
 /// there was none), and by how much is held.
 #[derive(Default)]
 struct Seen {
-    refusals: [u32; 12],
+    refusals: [u32; 15],
     empty: u32,
     one: u32,
     more: u32,
@@ -113,7 +113,7 @@ fn the_authority_agrees_on_3000_sheets() {
         let text = generator::sheet(61, index);
         seen.compare_sheet(&text, index + 1, &format!("sheet {index}"));
     }
-    for number in [0, 2, 3, 4, 5, 6, 7, 8, 9, 10, 11] {
+    for number in [0, 2, 3, 4, 5, 6, 7, 8, 9, 10, 11, 14] {
         assert!(seen.refusals[number] > 0, "{number} was never the answer");
     }
     assert!(seen.refusals[11] > 20_000, "{} refused", seen.refusals[11]);
@@ -134,6 +134,20 @@ fn the_authority_agrees_on_600_mills() {
     assert!(seen.empty > 50, "{} empty", seen.empty);
     assert!(seen.more > 5_000, "{} of more", seen.more);
     assert!(seen.many > 5, "{} of many", seen.many);
+}
+
+/// Sheets with devices, which main hands on or keeps.
+#[test]
+fn the_authority_agrees_on_400_sheets_with_devices() {
+    let mut seen = Seen::default();
+    for index in 0..400 {
+        let text = generator::device(64, index);
+        seen.compare_sheet(&text, index + 1, &format!("sheet {index} with devices"));
+    }
+    assert!(seen.refusals[0] > 2_000, "{} answered", seen.refusals[0]);
+    assert!(seen.empty > 50, "{} empty", seen.empty);
+    assert!(seen.one > 1_000, "{} of one", seen.one);
+    assert!(seen.more > 1_000, "{} of more", seen.more);
 }
 
 /// Sheets whose slots and kept values are often named by nothing.

@@ -56,7 +56,7 @@ fn the_edges_have_the_answers_of_the_rules() {
 /// outcomes with one step less.
 #[derive(Default)]
 struct Seen {
-    refusals: [u32; 14],
+    refusals: [u32; 15],
     outcomes: [u32; 4],
     large: u32,
     less: [u32; 4],

@@ -44,7 +44,7 @@ fn the_example_in_c_prints_the_stored_lines_of_every_example() {
             count += 1;
         }
     }
-    assert_eq!(count, 16);
+    assert_eq!(count, 18);
 }
 
 #[test]

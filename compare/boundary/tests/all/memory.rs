@@ -29,6 +29,7 @@ fn sheet(index: u64) -> Vec<u8> {
     match index % 4 {
         0 => generator::mill(93, index),
         1 => generator::strict(93, index / 4),
+        2 => generator::device(93, index),
         _ => generator::sheet(93, index),
     }
 }

@@ -41,7 +41,7 @@ fn printed_in(pieces: &[&[u8]]) -> String {
 /// holders were printed bare or with a set.
 #[derive(Default)]
 struct Seen {
-    verdicts: [u32; 12],
+    verdicts: [u32; 15],
     outcomes: [u32; 4],
     bare: u32,
     sets: u32,
@@ -96,7 +96,7 @@ fn compare_all(count: u64, sheet: impl Fn(u64) -> Vec<u8> + Sync) -> Seen {
 #[test]
 fn the_printed_lines_agree_on_20000_sheets() {
     let seen = compare_all(20_000, |index| generator::sheet(81, index));
-    for number in [0, 2, 3, 4, 5, 6, 7, 8, 9, 10] {
+    for number in [0, 2, 3, 4, 5, 6, 7, 8, 9, 10, 14] {
         assert!(seen.verdicts[number] > 0, "{number} was never printed");
     }
     let outcomes = seen.outcomes;
@@ -136,8 +136,8 @@ fn a_sheet_that_comes_in_pieces_is_read_whole() {
 }
 
 /// Each example has its lines stored beside it: one sheet for each outcome,
-/// one for each refusal from 3 to 10, for the question for the most steps one
-/// that is answered and one that is not, and others.
+/// one for each refusal from 3 to 10 and for 14, for the question for the most
+/// steps one that is answered and one that is not, and others.
 #[test]
 fn every_example_prints_its_stored_lines() {
     let folder = Path::new(env!("CARGO_MANIFEST_DIR")).join("../../examples");
@@ -152,8 +152,9 @@ fn every_example_prints_its_stored_lines() {
             seen.compare(&text, &name);
         }
     }
-    assert_eq!(seen.outcomes, [5, 1, 1, 1]);
-    assert_eq!(seen.verdicts, [8, 0, 0, 1, 1, 1, 1, 1, 1, 1, 1, 0]);
+    assert_eq!(seen.outcomes, [6, 1, 1, 1]);
+    let verdicts = [9, 0, 0, 1, 1, 1, 1, 1, 1, 1, 1, 0, 0, 0, 1];
+    assert_eq!(seen.verdicts, verdicts);
 }
 
 #[test]

@@ -235,6 +235,7 @@ fn compare_half(first: u64, count: u64, noise: &[u16]) -> ([u32; 3], Lengths) {
     for seed in (first..count).step_by(2) {
         let text = match seed % 10 {
             0..=1 => generator::idle(91, seed),
+            2 => generator::device(91, seed),
             _ => generator::sheet(91, seed),
         };
         let text = &text[..];

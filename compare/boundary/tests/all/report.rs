@@ -50,7 +50,7 @@ fn compare(text: &[u8], seed: u64, name: &str) -> ReportResult {
 /// of main alone with nothing held, and the largest report.
 #[derive(Default)]
 struct Seen {
-    refusals: [u32; 12],
+    refusals: [u32; 15],
     outcomes: [u32; 4],
     bare: u32,
     most: u32,
@@ -74,7 +74,7 @@ fn the_report_agrees_on_5000_sheets() {
         let text = generator::sheet(71, index);
         seen.count(compare(&text, index + 1, &format!("sheet {index}")));
     }
-    for number in [0, 2, 3, 4, 5, 6, 7, 8, 9, 10] {
+    for number in [0, 2, 3, 4, 5, 6, 7, 8, 9, 10, 14] {
         assert!(seen.refusals[number] > 0, "{number} was never the answer");
     }
     let outcomes = seen.outcomes;
@@ -93,6 +93,22 @@ fn the_report_agrees_on_1000_mills() {
     let outcomes = seen.outcomes;
     assert!(outcomes.iter().all(|count| *count > 0), "{outcomes:?}");
     assert!(seen.most > 800, "{} numbers at most", seen.most);
+}
+
+#[test]
+fn the_report_agrees_on_600_sheets_with_devices() {
+    let mut seen = Seen::default();
+    for index in 0..600 {
+        let text = generator::device(74, index);
+        seen.count(compare(
+            &text,
+            index + 1,
+            &format!("sheet {index} with devices"),
+        ));
+    }
+    assert_eq!(seen.refusals[0], 600);
+    let outcomes = seen.outcomes;
+    assert!(outcomes.iter().all(|count| *count > 0), "{outcomes:?}");
 }
 
 #[test]

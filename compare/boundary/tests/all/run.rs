@@ -26,7 +26,7 @@ pub fn wanted(answer: Result<RunAnswer, Refusal>) -> RunResult {
 /// What was reached: refusals by number (0 where accepted) and outcomes.
 #[derive(Default)]
 struct Seen {
-    refusals: [u32; 12],
+    refusals: [u32; 15],
     outcomes: [u32; 4],
     runs: u32,
 }
@@ -94,7 +94,7 @@ fn the_run_agrees_on_20000_sheets() {
         let text = generator::sheet(51, index);
         seen.compare_sheet(&text, index + 1, &format!("sheet {index}"));
     }
-    for number in [0, 2, 3, 4, 5, 6, 7, 8, 9, 10] {
+    for number in [0, 2, 3, 4, 5, 6, 7, 8, 9, 10, 14] {
         assert!(seen.refusals[number] > 0, "{number} was never the answer");
     }
     assert!(seen.outcomes.iter().all(|count| *count > 1_000));
@@ -110,6 +110,17 @@ fn the_run_agrees_on_4000_mills() {
     }
     assert_eq!(seen.runs, 24_000);
     assert!(seen.outcomes.iter().all(|count| *count > 100));
+}
+
+#[test]
+fn the_run_agrees_on_2000_sheets_with_devices() {
+    let mut seen = Seen::default();
+    for index in 0..2_000 {
+        let text = generator::device(53, index);
+        seen.compare_sheet(&text, index + 1, &format!("sheet {index} with devices"));
+    }
+    assert_eq!(seen.runs, 12_000);
+    assert!(seen.outcomes.iter().all(|count| *count > 50));
 }
 
 #[test]

@@ -20,8 +20,8 @@ fn compare(text: &[u8], entry: &[u16], name: &str) -> VerdictResult {
 
 /// Compares on sheets of one kind; how many answers there were by refusal, and
 /// by what is lacking.
-fn compare_all(sheet: fn(u64, u64) -> Vec<u8>, count: u64) -> ([u32; 12], [u32; 4]) {
-    let (mut seen, mut lacks) = ([0; 12], [0; 4]);
+fn compare_all(sheet: fn(u64, u64) -> Vec<u8>, count: u64) -> ([u32; 15], [u32; 4]) {
+    let (mut seen, mut lacks) = ([0; 15], [0; 4]);
     for index in 0..count {
         let text = sheet(41, index);
         let entry = noise(index + 1, WORK + (index as usize % 3) * 7);
@@ -35,7 +35,7 @@ fn compare_all(sheet: fn(u64, u64) -> Vec<u8>, count: u64) -> ([u32; 12], [u32; 
 #[test]
 fn the_verdict_agrees_on_20000_sheets() {
     let (seen, lacks) = compare_all(generator::sheet, 20_000);
-    for number in [0, 2, 3, 4, 5, 6, 7, 8, 9, 10] {
+    for number in [0, 2, 3, 4, 5, 6, 7, 8, 9, 10, 14] {
         assert!(seen[number] > 0, "{number} was never the answer");
     }
     assert!(lacks.iter().all(|count| *count > 200), "{lacks:?}");
@@ -47,6 +47,19 @@ fn the_verdict_agrees_on_1000_readable_sheets() {
     let (seen, lacks) = compare_all(generator::readable, 1_000);
     assert!(seen[10] > 100, "{seen:?}");
     assert!(lacks.iter().all(|count| *count > 10), "{lacks:?}");
+}
+
+/// Each at its edge: the count, the lines, their forms, and what stands before
+/// or after a wrong device.
+#[test]
+fn the_edges_of_devices_have_their_numbers_and_lines() {
+    let edges = generator::device_edges();
+    assert!(edges.len() > 50, "{} edges", edges.len());
+    for (number, (text, wanted)) in edges.iter().enumerate() {
+        let name = format!("edge {number}");
+        let answer = compare(text, &noise(5, WORK), &name);
+        assert_eq!((answer.refusal, answer.line), *wanted, "{name}");
+    }
 }
 
 /// Document 01's sheet P, with one line changed.

@@ -1,7 +1,7 @@
 //! Laws that every accepted sheet obeys: how authority grows, and how the
 //! answers to the questions belong together.
 
-use generator::{group, idle, mill, sheet};
+use generator::{device, group, idle, mill, sheet};
 use second::authority::{authority_of, frame_holders, holders, is_resource};
 use second::machine::{Machine, Outcome};
 use second::sheet::Instruction;
@@ -97,7 +97,7 @@ fn follow(text: &[u8], steps: u32) -> usize {
 
 #[test]
 fn authority_grows_by_creation_call_and_return_only() {
-    let (mut count, mut of_idle) = (0, 0);
+    let (mut count, mut of_idle, mut of_device) = (0, 0, 0);
     for index in 0..600_u64 {
         let text = sheet(12, index);
         if second::verdict(&text).is_ok() {
@@ -105,10 +105,12 @@ fn authority_grows_by_creation_call_and_return_only() {
         }
         if index.is_multiple_of(4) {
             of_idle += follow(&idle(12, index), 150);
+            of_device += follow(&device(12, index), 150);
         }
     }
     assert!(count > 3_000, "{count} resources were new to a holder");
     assert!(of_idle > 3_000, "{of_idle} in idle sheets");
+    assert!(of_device > 2_000, "{of_device} in device sheets");
 }
 
 /// The members of a group, made or not.
@@ -191,8 +193,11 @@ fn groups(index: u64, objects: u16) -> Vec<Group> {
 fn a_group_gains_by_creation_call_and_return_only() {
     let mut gains = [0; 3];
     for index in 0..600_u64 {
-        let idle = index.is_multiple_of(6).then(|| idle(15, index));
-        for text in [sheet(15, index), mill(15, index)].into_iter().chain(idle) {
+        let mut texts = vec![sheet(15, index), mill(15, index)];
+        if index.is_multiple_of(6) {
+            texts.extend([idle(15, index), device(15, index)]);
+        }
+        for text in texts {
             if let Ok(run) = second::run(&text, 100) {
                 let groups = groups(index, run.objects);
                 follow_groups(&text, 100, &groups, &mut gains);
@@ -205,10 +210,13 @@ fn a_group_gains_by_creation_call_and_return_only() {
     assert!(returns > 200, "{returns} gains by return");
 }
 
+/// What makes the sheet of a seed and an index.
+type Make = fn(u64, u64) -> Vec<u8>;
+
 #[test]
 fn the_printed_answer_agrees_with_the_questions() {
-    for index in 0..300 {
-        let text = sheet(13, index);
+    for (index, make) in (0..300).flat_map(|index| [(index, sheet as Make), (index, device)]) {
+        let text = make(13, index);
         let expected = match second::run(&text, 10_000) {
             Err(refusal) => second::refusal_lines(refusal),
             Ok(run) => {

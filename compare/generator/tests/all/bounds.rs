@@ -2,7 +2,7 @@
 
 use crate::common::{against, bound};
 use generator::bounds::{amount, LIMIT};
-use generator::{bound_edges, mill, sheet, strict};
+use generator::{bound_edges, device, mill, sheet, strict};
 use second::Outcome;
 use std::collections::BTreeSet;
 
@@ -75,9 +75,10 @@ fn expected(text: &[u8]) -> Result<u32, (u32, u32)> {
 
 #[test]
 fn every_sheet_has_the_answer_of_the_rules() {
-    let mut seen = [0; 14];
+    let mut seen = [0; 15];
     for index in 0..700 {
-        for text in [sheet(21, index), mill(21, index), strict(21, index)] {
+        let texts = [sheet, mill, strict, device].map(|make| make(21, index));
+        for text in texts {
             let answer = bound(&text);
             assert_eq!(answer, expected(&text), "index {index}");
             seen[answer.map_or_else(|refusal| refusal.0 as usize, |_| 0)] += 1;
@@ -86,6 +87,7 @@ fn every_sheet_has_the_answer_of_the_rules() {
     for number in [0, 9, 10, 12, 13] {
         assert!(seen[number] > 30, "answer {number}: {seen:?}");
     }
+    assert!(seen[14] > 10, "{seen:?}");
 }
 
 /// Runs with the amount end, in every way but one.

@@ -1,7 +1,7 @@
 //! The lines of forms: what the sheets have for this question, and what
 //! every answer obeys.
 
-use generator::{mill, readable, sheet};
+use generator::{device, mill, readable, sheet};
 use second::sheet::{Form, Instruction, Part, FORM_LIMIT};
 use second::{form, read, verdict, Reason, Refusal, Sheet};
 use std::collections::BTreeSet;
@@ -171,15 +171,16 @@ fn the_seed_and_the_index_decide_a_readable_sheet() {
 }
 
 /// Where the forms must begin by the line numbers that reading noted, and
-/// last where main's line does.
+/// last where the line after them does.
 fn starts(text: &[u8], sheet: &Sheet) -> Vec<usize> {
     let start = |line: u32| {
         let lines = text.split_inclusive(|byte| *byte == b'\n');
         lines.take(line as usize - 1).map(<[u8]>::len).sum()
     };
-    let main = sheet.main[0].line - 1;
+    let devices = sheet.devices.first().map(|device| device.line);
+    let after = devices.unwrap_or(sheet.main[0].line) - 1;
     let forms = sheet.forms.iter().map(|form| form.line);
-    forms.chain([main]).map(start).collect()
+    forms.chain([after]).map(start).collect()
 }
 
 /// Asks for every form of a text and for some that are not there, and tells
@@ -216,6 +217,7 @@ fn forms_stand_where_reading_found_them() {
     }
     for index in 0..100 {
         answered += ask(&mill(17, index)) + ask(&readable(17, index));
+        answered += ask(&device(17, index));
     }
     assert!(answered > 8_000, "{answered} forms were asked for");
 }

@@ -3,6 +3,10 @@
 mod answers;
 mod bounds;
 mod common;
+mod device_holdings;
+mod device_rules;
+mod device_verdicts;
+mod devices;
 mod edges;
 mod forms;
 mod groups;

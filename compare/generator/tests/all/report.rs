@@ -1,7 +1,7 @@
 //! The report and the program.
 
 use generator::bounds::Bounds;
-use generator::report::{report, Report, IDLE_SHARE, STRICT_SHARE};
+use generator::report::{report, Report, DEVICE_SHARE, IDLE_SHARE, STRICT_SHARE};
 use generator::usable::{Thing, THINGS};
 use std::process::{Command, Output};
 
@@ -17,8 +17,7 @@ fn a_run_of_sheets_reaches_everything() {
     let report = report(1, 1_500);
     assert_eq!(report.missing(), Vec::<String>::new());
     assert_eq!(report.sheets, 1_500);
-    let refused: u64 = report.refusals[..11].iter().sum();
-    assert_eq!(report.accepted + refused, 1_500);
+    assert_eq!(report.accepted + refused(&report), 1_500);
     assert_eq!(report.outcomes.iter().sum::<u64>(), report.accepted);
     for (place, uses) in report.uses.iter().enumerate() {
         assert!(*uses >= 20, "census {place}: {uses}");
@@ -32,11 +31,34 @@ fn a_run_of_sheets_reaches_everything() {
     assert!(answered.min(not) * 3 > report.accepted);
     let line = format!("group answered: {answered}, no holder: {not}\n");
     assert!(report.lines().contains(&line));
-    for number in 3..=10 {
+    for number in (3..=10).chain([14]) {
         assert!(report.late[number] > 0, "no late refusal {number}");
     }
     check_bounds(&report);
     check_usable(&report);
+    check_devices(&report);
+}
+
+/// How many sheets were refused; 11 is given to accepted ones.
+fn refused(report: &Report) -> u64 {
+    let all: u64 = report.refusals.iter().sum();
+    all - report.refusals[11]
+}
+
+fn check_devices(report: &Report) {
+    assert_eq!(report.devices.sheets, report.accepted);
+    let sheets = report.sheets.div_ceil(DEVICE_SHARE);
+    assert_eq!(report.device.sheets, sheets);
+    assert_eq!(report.device.equipped, sheets);
+    let some = report.devices.equipped;
+    assert!(some * 8 > report.accepted, "{some} sheets have devices");
+    for (name, devices) in [
+        ("accepted", &report.devices),
+        ("device sheets", &report.device),
+    ] {
+        assert!(report.lines().contains(&devices.lines(name)));
+    }
+    assert!(report.lines().contains(&report.device_refusals.lines()));
 }
 
 fn check_usable(report: &Report) {
@@ -66,8 +88,7 @@ fn check_bounds(report: &Report) {
     assert_eq!(all(&report.bounds), report.sheets);
     assert_eq!(all(&report.strict), report.sheets.div_ceil(STRICT_SHARE));
     assert!(report.bounds.answered > 0 && report.bounds.circular > 0);
-    let refused: u64 = report.refusals[..11].iter().sum();
-    assert_eq!(report.bounds.others, refused);
+    assert_eq!(report.bounds.others, refused(report));
     for (name, bounds) in [
         ("sheets", &report.bounds),
         ("strict sheets", &report.strict),
@@ -79,9 +100,10 @@ fn check_bounds(report: &Report) {
 #[test]
 fn what_is_missing_is_told() {
     // Refusals, outcomes, the cases of misfit alone and beside others,
-    // answers to the question for the most steps, and things for the
-    // authority question.
-    assert_eq!(Report::default().missing().len(), 9 + 4 + 24 + 31 + 5 + 13);
+    // answers to the question for the most steps, things for the authority
+    // question, and things and faults of devices.
+    let all = 10 + 4 + 24 + 31 + 5 + 13 + 31 + 22;
+    assert_eq!(Report::default().missing().len(), all);
     let few = program(&["report", "1", "3"]);
     assert_eq!(few.status.code(), Some(1));
     let message = String::from_utf8_lossy(&few.stderr).into_owned();
@@ -100,6 +122,8 @@ fn the_program_writes_sheets_and_reports() {
     assert_eq!(text.stdout, generator::mill(8, 3));
     let text = program(&["idle", "8", "3"]);
     assert_eq!(text.stdout, generator::idle(8, 3));
+    let text = program(&["device", "8", "3"]);
+    assert_eq!(text.stdout, generator::device(8, 3));
     let text = program(&["readable", "8", "3"]);
     assert_eq!(text.stdout, generator::readable(8, 3));
     let text = program(&["strict", "8", "3"]);
@@ -113,7 +137,7 @@ fn the_program_writes_sheets_and_reports() {
 
 #[test]
 fn wrong_command_lines() {
-    let cases: [&[&str]; 12] = [
+    let cases: [&[&str]; 14] = [
         &[],
         &["1"],
         &["1", "x"],
@@ -121,6 +145,8 @@ fn wrong_command_lines() {
         &["report", "1"],
         &["mill", "1", "x"],
         &["idle", "1", "x"],
+        &["device", "1", "x"],
+        &["devices", "1", "2"],
         &["readable", "1", "x"],
         &["strict", "1", "x"],
         &["wide", "1", "x"],

@@ -76,7 +76,7 @@ fn around(text: &[u8], line: u32) -> (bool, bool) {
     (before == 1, before == heads.len())
 }
 
-/// Whether no `new` names the form in which the line stands.
+/// Whether no `new` or `device` names the form in which the line stands.
 fn is_idle(sheet: &Sheet, line: u32) -> bool {
     let own = sheet.forms.iter().rposition(|form| form.line < line);
     let bodies = sheet.forms.iter().flat_map(|form| &form.parts);
@@ -84,11 +84,13 @@ fn is_idle(sheet: &Sheet, line: u32) -> bool {
         second::sheet::Part::Body(code) => Some(code),
         second::sheet::Part::Init { .. } => None,
     });
+    let is_own = |form: u16| Some(usize::from(form)) == own;
     let mut all = bodies.chain([&sheet.main]).flatten();
-    !all.any(|placed| match placed.instruction {
-        Instruction::New { form, .. } => Some(usize::from(form)) == own,
+    let made = all.any(|placed| match placed.instruction {
+        Instruction::New { form, .. } => is_own(form),
         _ => false,
-    })
+    });
+    !made && !sheet.devices.iter().any(|device| is_own(device.form))
 }
 
 #[test]

@@ -99,6 +99,7 @@ fn used(sheet: &Sheet) -> (BTreeSet<u16>, BTreeSet<u16>) {
             made.insert(form);
         }
     }
+    made.extend(sheet.devices.iter().map(|device| device.form));
     for placed in &sheet.main {
         if let Instruction::Call { name, .. } = placed.instruction {
             called.insert(name);

@@ -1,7 +1,7 @@
 //! Authority sets: within those of before, and other than those of rules
 //! that are wrong in one point, in many sheets.
 
-use generator::{idle, mill, sheet};
+use generator::{device, idle, mill, sheet};
 use second::authority::{authority_of, frame_holders, held_before, holders, is_resource};
 use second::machine::{Machine, FIRST_KEPT};
 use second::sheet::{Part, Placed};
@@ -28,7 +28,8 @@ fn each_state(text: &[u8], mut look: impl FnMut(&Machine)) {
 fn each_set_lies_within_the_one_before() {
     let (mut less, mut equal) = (0, 0);
     for index in 0..300 {
-        for text in [sheet(34, index), mill(34, index), idle(34, index)] {
+        let texts = [sheet, mill, idle, device].map(|make| make(34, index));
+        for text in texts {
             each_state(&text, |machine| {
                 for holder in holders(machine) {
                     let now = authority_of(machine, holder.into()).expect("a holder");

@@ -4,6 +4,8 @@ mod authority;
 mod bad_input;
 mod bound;
 mod common;
+mod device_runs;
+mod devices;
 mod fit;
 mod form;
 mod group;

@@ -11,7 +11,7 @@ use Rattle.instr_judge.proofs.instr_line.Statement.{statement}
 use Rattle.instr_judge.proofs.instr_line.Tie as tie
 
 returns : tie.Need-returns
-returns c = instr-malformed (c .before .args .numbers) (c .before .args .forms) (c .before .args .filled) (c .before .args .place) (c .before .pre) (other-place (c .before .args .place) (Place.Instruction Operation.New) (0 ∷ 1 ∷ 2 ∷ 3 ∷ 4 ∷ 5 ∷ 6 ∷ 7 ∷ 8 ∷ 10 ∷ []) tt (c .match .keys2))
+returns c = instr-malformed (c .before .args .numbers) (c .before .args .forms) (c .before .args .filled) (c .before .args .place) (c .before .pre) (other-place (c .before .args .place) (Place.Instruction Operation.New) (0 ∷ 1 ∷ 2 ∷ 3 ∷ 4 ∷ 5 ∷ 6 ∷ 7 ∷ 8 ∷ 9 ∷ 10 ∷ 12 ∷ []) tt (c .match .keys2))
 
 returns-2 : tie.Need-returns-2
 returns-2 c =

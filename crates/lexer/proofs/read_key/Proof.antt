@@ -9,7 +9,7 @@ use Rattle.lexer.proofs.read_key.Statement.{statement}
 use Rattle.lexer.proofs.read_key.Tie as tie
 
 abbrev Inv-loop : tie.InvT-loop
-Inv-loop text from at₀ code₀ at code = (at ≤ length text) × (code < 14348907) × (keyScan code at (drop at text) ≡ keyScan 0 from (drop from text))
+Inv-loop text from at₀ code₀ at code = (at ≤ length text) × (code < 10460353203) × (keyScan code at (drop at text) ≡ keyScan 0 from (drop from text))
 
 abbrev μ-loop : tie.MeasureT-loop
 μ-loop text from at₀ code₀ at code = length text - at

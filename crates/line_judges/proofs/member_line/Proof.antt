@@ -12,7 +12,7 @@ use Rattle.line_judges.proofs.member_line.Tie as tie
 returns : tie.Need-returns
 returns c = (
   (λ bound earlier h before low. member-malformed (c .before .args .place) (c .before .args .numbers) (c .before .pre) bound earlier h before
-      (other-place (c .before .args .place) (Place.Member MemberKind.Method) (0 ∷ 1 ∷ 3 ∷ 4 ∷ 5 ∷ 6 ∷ 7 ∷ 8 ∷ 9 ∷ 10 ∷ []) tt (c .match .keys2))),
+      (other-place (c .before .args .place) (Place.Member MemberKind.Method) (0 ∷ 1 ∷ 3 ∷ 4 ∷ 5 ∷ 6 ∷ 7 ∷ 8 ∷ 9 ∷ 10 ∷ 11 ∷ 12 ∷ []) tt (c .match .keys2))),
   λ e. refused-not _ e,
 )
 

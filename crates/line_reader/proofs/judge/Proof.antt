@@ -29,20 +29,22 @@ returns-8 : tie.Need-returns-8
 returns-8 c = let p = c .before .before .before .args in judges-at (c .before .enum-told8 .given .1) (p .bound) (p .place) (p .numbers) (c .body-line .result) (c .body-line .ensures)
 
 returns-9 : tie.Need-returns-9
-returns-9 c = let p = c .before .before .before .args in judges-at (c .before .enum-told9 .given .1) (p .bound) (p .place) (p .numbers) (c .body-line2 .result) (c .body-line2 .ensures)
+returns-9 c = let p = c .before .before .before .args in judges-at (c .before .enum-told9 .given .1) (p .bound) (p .place) (p .numbers) (c .count-line3 .result) (c .count-line3 .ensures)
 
 returns-10 : tie.Need-returns-10
-returns-10 c = let p = c .before .before .args in judges-at (c .enum-told10 .given .1) (p .bound) (p .place) (p .numbers) _ refl
+returns-10 c = let p = c .before .before .before .args in judges-at (c .before .enum-told10 .given .1) (p .bound) (p .place) (p .numbers) (c .existing-line3 .result) (c .existing-line3 .ensures)
 
 returns-11 : tie.Need-returns-11
-returns-11 c = let p = c .before .before .args in judges-at (c .enum-told11 .given .1) (p .bound) (p .place) (p .numbers) _ refl
+returns-11 c = let p = c .before .before .before .args in judges-at (c .before .enum-told11 .given .1) (p .bound) (p .place) (p .numbers) (c .body-line2 .result) (c .body-line2 .ensures)
+
+returns-12 : tie.Need-returns-12
+returns-12 c = let p = c .before .before .args in judges-at (c .enum-told12 .given .1) (p .bound) (p .place) (p .numbers) _ refl
+
+returns-13 : tie.Need-returns-13
+returns-13 c = let p = c .before .before .args in judges-at (c .enum-told13 .given .1) (p .bound) (p .place) (p .numbers) _ refl
 
 pub judge-spec : {M : Type 1} → statement M
 judge-spec =
     tie.close
     (tie.spec
-    (λ c. search needs) (λ c κs. search needs) (λ c. search needs) (λ c κs. search needs) (λ c. search needs) (λ c κs. search needs)
-    (λ c. search needs) (λ c κs. search needs) (λ c. search needs) (λ c κs. search needs) (λ c. search needs) (λ c κs. search needs)
-    (λ c. search needs) (λ c κs. search needs) (λ c. search needs) (λ c κs. search needs) (λ c. search needs) (λ c κs. search needs)
-    (λ c. search needs) (λ c. search needs) returns returns-2 returns-3 returns-4 returns-5 returns-6 returns-7 returns-8 returns-9 returns-10
-    returns-11)
+    (λ c. search needs) (λ c κs. search needs) (λ c. search needs) (λ c κs. search needs) (λ c. search needs) (λ c κs. search needs) (λ c. search needs) (λ c κs. search needs) (λ c. search needs) (λ c κs. search needs) (λ c. search needs) (λ c κs. search needs) (λ c. search needs) (λ c κs. search needs) (λ c. search needs) (λ c κs. search needs) (λ c. search needs) (λ c κs. search needs) (λ c. search needs) (λ c κs. search needs) (λ c. search needs) (λ c κs. search needs) (λ c. search needs) (λ c. search needs) returns returns-2 returns-3 returns-4 returns-5 returns-6 returns-7 returns-8 returns-9 returns-10 returns-11 returns-12 returns-13)

@@ -1,8 +1,9 @@
 use native.Mathlib.Omega.{arith}
 use Prim.Native.Nat.{_-_}
-use mathlib.Core.Path.{sym, _∙_, subst}
+use mathlib.Core.Path.{sym, ap, _∙_, subst}
 use Rattle.machine_rules.specs.declared.Outcome.{Outcome}
 use Rattle.machine_rules.specs.declared.Tally.{Tally}
+use Rattle.machine_rules.specs.Steps.{startTally}
 use Rattle.machine_state.specs.declared.Top.{Top}
 use Rattle.machine.specs.declared.Move.{Move}
 use Rattle.machine.specs.Runs.{Moved, startTop, SheetRun}
@@ -18,15 +19,18 @@ abbrev μ-loop : tie.MeasureT-loop
 μ-loop work₀ budget most top₀ tally₀ work top tally = budget - tally .steps
 
 start-top-requires : tie.Need-start-top-requires Inv-loop μ-loop
-start-top-requires c κs = (c .before .before .pre)
+start-top-requires c κs = c .before .before .pre .able
 
 start-requires : tie.Need-start-requires Inv-loop μ-loop
 start-requires c κs = tt
 
 loop-holds : tie.Need-loop-holds Inv-loop μ-loop
 loop-holds c =
-    subst (λ (x : Top). Going (c .before .before .before .before .args .work .now) (c .before .before .before .before .args .budget) (c .before .before .before .before .args .work .now) x (c .start .result)) (sym (c .before .start-top .ensures))
-    (subst (λ (y : Tally). Going (c .before .before .before .before .args .work .now) (c .before .before .before .before .args .budget) (c .before .before .before .before .args .work .now) (startTop (c .before .before .before .before .args .work .now)) y) (sym (c .start .ensures)) (going-start (c .before .before .before .before .args .work .now) (c .before .before .before .before .args .budget) (c .before .before .before .before .pre)))
+    let p = c .before .before .before .before in
+    let w = p .args .work .now in
+    let top = c .before .start-top .ensures in
+    subst (λ (x : Top). Going w (p .args .budget) w x (c .start .result)) (sym top)
+    (subst (λ (y : Tally). Going w (p .args .budget) w (startTop w) y) (sym (c .start .ensures ∙ ap (λ (x : Top). startTally (x .filled)) top)) (going-start w (p .args .budget) (p .pre)))
 
 advance-requires : tie.Need-advance-requires Inv-loop μ-loop
 advance-requires c κs =

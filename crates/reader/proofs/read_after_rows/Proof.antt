@@ -1,7 +1,7 @@
 use mathlib.Core.Path.{_∙_}
 use Rattle.reader_loop.proofs.LoopLaws.{moved-on}
 use Rattle.reader_loop.proofs.ThenLaws.{past}
-use Rattle.reader.proofs.SheetLaws.{forms-line-refused, forms-few, forms-refused, forms-ready, forms-used, forms-main}
+use Rattle.reader.proofs.SheetLaws.{forms-line-refused, forms-few, forms-refused, forms-ready, forms-used, forms-after}
 use borrow.Author.Needs.{needs}
 use Rattle.reader.proofs.read_after_rows.Statement.{statement}
 use Rattle.reader.proofs.read_after_rows.Tie as tie
@@ -24,8 +24,8 @@ returns-2 c =
     let forms = c .before .before .before .before .before in let head = forms .before .before .before in
     forms-refused (head .before .before .before .before .before .pre .2) (head .before .before .take-line .ensures) (head .head .given .1) (forms .read-forms .ensures) (c .before .enum-told2 .given .1) (c .progress-verdict2 .ensures)
 
-read-main-requires : tie.Need-read-main-requires
-read-main-requires c κs =
+read-after-forms-requires : tie.Need-read-after-forms-requires
+read-after-forms-requires c κs =
     let moved = c .before .before .read .given .1 in
     let forms = c .before .before .before .before .before .before in let head = forms .before .before .before in
     let ready = head .before .before .before .before .before .pre .2 in
@@ -36,11 +36,11 @@ read-main-requires c κs =
 returns-3 : tie.Need-returns-3
 returns-3 c =
     let forms = c .before .before .before .before .before .before .before .before .before in let head = forms .before .before .before in
-    forms-main (head .before .before .before .before .before .pre .2) (head .before .before .take-line .ensures) (head .head .given .1) (forms .read-forms .ensures) (c .before .before .before .before .before .read .given .1) (c .before .before .read-main .ensures)
+    forms-after (head .before .before .before .before .before .pre .2) (head .before .before .take-line .ensures) (head .head .given .1) (forms .read-forms .ensures) (c .before .before .before .before .before .read .given .1) (c .before .before .read-after-forms .ensures)
 
 pub read-after-rows-spec : {M : Type 1} → statement M
 read-after-rows-spec =
     tie.close
     (tie.spec
     (λ c κs. search needs) (λ c. search needs) (λ c. search needs) (λ c κs. search needs) (λ c κs. search needs) returns read-forms-requires
-    (λ c. search needs) (λ c. search needs) (λ c κs. search needs) (λ c. search needs) returns-2 read-main-requires (λ c. search needs) returns-3)
+    (λ c. search needs) (λ c. search needs) (λ c κs. search needs) (λ c. search needs) returns-2 read-after-forms-requires (λ c. search needs) returns-3)

@@ -49,33 +49,38 @@ returns-10 c = c .of8 .ensures ∙ sym (ap (λ (x : ℕ). factsOf (placeOfCode x
 
 returns-11 : tie.Need-returns-11
 unfolding factsOf placeOfCode codeAmong wordCode bytes
-returns-11 c = c .instruction .ensures ∙ sym (ap (λ (x : ℕ). factsOf (placeOfCode x)) (c .before .match .keys11))
+returns-11 c = c .of9 .ensures ∙ sym (ap (λ (x : ℕ). factsOf (placeOfCode x)) (c .before .match .keys11))
 
 returns-12 : tie.Need-returns-12
 unfolding factsOf placeOfCode codeAmong wordCode bytes
-returns-12 c = c .instruction2 .ensures ∙ sym (ap (λ (x : ℕ). factsOf (placeOfCode x)) (c .before .match .keys12))
+returns-12 c = c .of10 .ensures ∙ sym (ap (λ (x : ℕ). factsOf (placeOfCode x)) (c .before .match .keys12))
 
 returns-13 : tie.Need-returns-13
 unfolding factsOf placeOfCode codeAmong wordCode bytes
-returns-13 c = c .instruction3 .ensures ∙ sym (ap (λ (x : ℕ). factsOf (placeOfCode x)) (c .before .match .keys13))
+returns-13 c = c .instruction .ensures ∙ sym (ap (λ (x : ℕ). factsOf (placeOfCode x)) (c .before .match .keys13))
 
 returns-14 : tie.Need-returns-14
 unfolding factsOf placeOfCode codeAmong wordCode bytes
-returns-14 c = c .instruction4 .ensures ∙ sym (ap (λ (x : ℕ). factsOf (placeOfCode x)) (c .before .match .keys14))
+returns-14 c = c .instruction2 .ensures ∙ sym (ap (λ (x : ℕ). factsOf (placeOfCode x)) (c .before .match .keys14))
 
 returns-15 : tie.Need-returns-15
 unfolding factsOf placeOfCode codeAmong wordCode bytes
-returns-15 c = c .instruction5 .ensures ∙ sym (ap (λ (x : ℕ). factsOf (placeOfCode x)) (c .before .match .keys15))
+returns-15 c = c .instruction3 .ensures ∙ sym (ap (λ (x : ℕ). factsOf (placeOfCode x)) (c .before .match .keys15))
 
 returns-16 : tie.Need-returns-16
 unfolding factsOf placeOfCode codeAmong wordCode bytes
-returns-16 c = c .of9 .ensures ∙ ap factsOf (simp (ne-eqb _ _ (c .before .match .rest .1), ne-eqb _ _ (c .before .match .rest .0 .1), ne-eqb _ _ (c .before .match .rest .0 .0 .1), ne-eqb _ _ (c .before .match .rest .0 .0 .0 .1), ne-eqb _ _ (c .before .match .rest .0 .0 .0 .0 .1), ne-eqb _ _ (c .before .match .rest .0 .0 .0 .0 .0 .1), ne-eqb _ _ (c .before .match .rest .0 .0 .0 .0 .0 .0 .1), ne-eqb _ _ (c .before .match .rest .0 .0 .0 .0 .0 .0 .0 .1), ne-eqb _ _ (c .before .match .rest .0 .0 .0 .0 .0 .0 .0 .0 .1), ne-eqb _ _ (c .before .match .rest .0 .0 .0 .0 .0 .0 .0 .0 .0 .1), ne-eqb _ _ (c .before .match .rest .0 .0 .0 .0 .0 .0 .0 .0 .0 .0 .1), ne-eqb _ _ (c .before .match .rest .0 .0 .0 .0 .0 .0 .0 .0 .0 .0 .0 .1), ne-eqb _ _ (c .before .match .rest .0 .0 .0 .0 .0 .0 .0 .0 .0 .0 .0 .0 .1), ne-eqb _ _ (c .before .match .rest .0 .0 .0 .0 .0 .0 .0 .0 .0 .0 .0 .0 .0 .1), ne-eqb _ _ (c .before .match .rest .0 .0 .0 .0 .0 .0 .0 .0 .0 .0 .0 .0 .0 .0 .1)))
+returns-16 c = c .instruction4 .ensures ∙ sym (ap (λ (x : ℕ). factsOf (placeOfCode x)) (c .before .match .keys16))
+
+returns-17 : tie.Need-returns-17
+unfolding factsOf placeOfCode codeAmong wordCode bytes
+returns-17 c = c .instruction5 .ensures ∙ sym (ap (λ (x : ℕ). factsOf (placeOfCode x)) (c .before .match .keys17))
+
+returns-18 : tie.Need-returns-18
+unfolding factsOf placeOfCode codeAmong wordCode bytes
+returns-18 c = c .of11 .ensures ∙ ap factsOf (simp (ne-eqb _ _ (c .before .match .rest .1), ne-eqb _ _ (c .before .match .rest .0 .1), ne-eqb _ _ (c .before .match .rest .0 .0 .1), ne-eqb _ _ (c .before .match .rest .0 .0 .0 .1), ne-eqb _ _ (c .before .match .rest .0 .0 .0 .0 .1), ne-eqb _ _ (c .before .match .rest .0 .0 .0 .0 .0 .1), ne-eqb _ _ (c .before .match .rest .0 .0 .0 .0 .0 .0 .1), ne-eqb _ _ (c .before .match .rest .0 .0 .0 .0 .0 .0 .0 .1), ne-eqb _ _ (c .before .match .rest .0 .0 .0 .0 .0 .0 .0 .0 .1), ne-eqb _ _ (c .before .match .rest .0 .0 .0 .0 .0 .0 .0 .0 .0 .1), ne-eqb _ _ (c .before .match .rest .0 .0 .0 .0 .0 .0 .0 .0 .0 .0 .1), ne-eqb _ _ (c .before .match .rest .0 .0 .0 .0 .0 .0 .0 .0 .0 .0 .0 .1), ne-eqb _ _ (c .before .match .rest .0 .0 .0 .0 .0 .0 .0 .0 .0 .0 .0 .0 .1), ne-eqb _ _ (c .before .match .rest .0 .0 .0 .0 .0 .0 .0 .0 .0 .0 .0 .0 .0 .1), ne-eqb _ _ (c .before .match .rest .0 .0 .0 .0 .0 .0 .0 .0 .0 .0 .0 .0 .0 .0 .1), ne-eqb _ _ (c .before .match .rest .0 .0 .0 .0 .0 .0 .0 .0 .0 .0 .0 .0 .0 .0 .0 .1), ne-eqb _ _ (c .before .match .rest .0 .0 .0 .0 .0 .0 .0 .0 .0 .0 .0 .0 .0 .0 .0 .0 .1)))
 
 pub key-of-spec : {M : Type 1} → statement M
 key-of-spec =
     tie.close
     (tie.spec
-    (λ c κs. search needs) (λ c κs. search needs) (λ c κs. search needs) (λ c κs. search needs) (λ c κs. search needs) (λ c κs. search needs)
-    (λ c κs. search needs) (λ c κs. search needs) (λ c κs. search needs) (λ c κs. search needs) (λ c κs. search needs) (λ c κs. search needs)
-    (λ c κs. search needs) (λ c κs. search needs) (λ c κs. search needs) (λ c κs. search needs) returns returns-2 returns-3 returns-4 returns-5
-    returns-6 returns-7 returns-8 returns-9 returns-10 returns-11 returns-12 returns-13 returns-14 returns-15 returns-16)
+    (λ c κs. search needs) (λ c κs. search needs) (λ c κs. search needs) (λ c κs. search needs) (λ c κs. search needs) (λ c κs. search needs) (λ c κs. search needs) (λ c κs. search needs) (λ c κs. search needs) (λ c κs. search needs) (λ c κs. search needs) (λ c κs. search needs) (λ c κs. search needs) (λ c κs. search needs) (λ c κs. search needs) (λ c κs. search needs) (λ c κs. search needs) (λ c κs. search needs) returns returns-2 returns-3 returns-4 returns-5 returns-6 returns-7 returns-8 returns-9 returns-10 returns-11 returns-12 returns-13 returns-14 returns-15 returns-16 returns-17 returns-18)

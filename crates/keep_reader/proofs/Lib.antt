@@ -1,2 +1,0 @@
-pub mod KeepLaws
-pub mod KeepsLaws
