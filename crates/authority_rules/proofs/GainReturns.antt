@@ -13,7 +13,7 @@ use Rattle.lists.specs.In.{In}
 use Rattle.lists.proofs.PairwiseLaws.{pairwise-length}
 use Rattle.lists.proofs.Tests.{true→T}
 use Rattle.sheet_rules.specs.Sheet.{Sheet}
-use Rattle.type_rules.specs.Typing.{Own}
+use Rattle.type_rules.specs.SlotRows.{Own}
 use Rattle.machine_rules.specs.State.{Frame, State, lastOf, filled}
 use Rattle.machine_rules.specs.Step.{returns, returnStep}
 use Rattle.machine_rules.specs.Sound.{Receives, object, SoundBelow, waits, Sound}

@@ -22,7 +22,7 @@ use Rattle.sheet_rules.specs.Sheet.{Sheet}
 use Rattle.sheet_rules.specs.Reading.{readable, meaning}
 use Rattle.type_rules.specs.Typing.{typing, verdictOn, acceptedOn, verdict}
 use Rattle.type_rules.proofs.TypedLaws.{accepted-sheet}
-use Rattle.type_rules.proofs.TypingLaws.{same-on}
+use Rattle.type_rules.proofs.VerdictLaws.{same-on}
 use Rattle.machine_rules.specs.State.{Object, State}
 use Rattle.machine_rules.specs.Steps.{run}
 use Rattle.machine_rules.proofs.StepsLaws.{run-ends}

@@ -16,7 +16,8 @@ use Rattle.sheet_rules.specs.declared.Member.{Member}
 use Rattle.sheet_rules.specs.declared.Member.the-variants.{Method, Field}
 use Rattle.sheet_rules.specs.Sheet.{Sheet, rowAt, rowOfForm}
 use Rattle.sheet_rules.specs.WellFormed.{WellFormed}
-use Rattle.type_rules.specs.Typing.{fieldIn, membersAt, isPure, hasField}
+use Rattle.type_rules.specs.SlotRows.{fieldIn, membersAt}
+use Rattle.type_rules.specs.Typing.{isPure, hasField}
 use Rattle.type_rules.specs.Typed.{Typed}
 use Rattle.type_rules.proofs.LookUpLaws.{fits-pure}
 use Rattle.machine_rules.specs.State.{Object, State, objectAt}

@@ -10,7 +10,7 @@ use lib.ListN.{length}
 use borrow.Author.Tests.{lt-ltb}
 use Rattle.lists.proofs.AtPlacesLaws.{places-in}
 use Rattle.sheet_rules.specs.Sheet.{Sheet, rowOfForm, codeNames}
-use Rattle.type_rules.specs.Typing.{Own}
+use Rattle.type_rules.specs.SlotRows.{Own}
 use Rattle.machine_rules.specs.State.{Object, Frame, State, objectAt}
 use Rattle.machine_rules.specs.Sound.{Receives, main, object, SoundFrame, SoundBelow, bottom, waits, Sound}
 use Rattle.machine_rules.proofs.StoreLaws.{values-made, Grows}

@@ -14,7 +14,8 @@ use Rattle.sheet_rules.specs.declared.Member.the-variants.{Method, Field}
 use Rattle.sheet_rules.specs.declared.Reason.the-variants.{CircularCall}
 use Rattle.sheet_rules.specs.declared.Verdict.{Verdict}
 use Rattle.sheet_rules.specs.Sheet.{Instr, copy, calledName, Part, init, body, Form, Sheet, noMember, noForm, formAt}
-use Rattle.type_rules.specs.Typing.{Fault, unless, Own, membersAt, bodyRows, rowsAfter, codeFaults, partFaults, partsFaults, keepFaults, formFaults, formsFaults, lineFaults, firstFormLine}
+use Rattle.type_rules.specs.SlotRows.{Own, membersAt, bodyRows, rowsAfter}
+use Rattle.type_rules.specs.Typing.{Fault, unless, codeFaults, partFaults, partsFaults, keepFaults, formFaults, formsFaults, lineFaults, firstFormLine}
 use Rattle.type_rules.proofs.TypedLaws.{firstFault-accepts}
 use Rattle.table.specs.View.{instrIn, instrsIn, memberIn, partIn, sheetIn}
 use Rattle.table.specs.declared.forms.PartPlace.{PartPlace}

@@ -12,7 +12,7 @@ use lib.ListN.{length, getD, set, replicate, length-append, length-set, length-r
 use lib.Seq.{getD-at, getD-set-same, getD-set-other}
 use Rattle.sheet_rules.specs.Limits.{nameLimit}
 use Rattle.sheet_rules.specs.Sheet.{Instr, calledName, Form, Sheet, formAt}
-use Rattle.type_rules.specs.Typing.{membersAt}
+use Rattle.type_rules.specs.SlotRows.{membersAt}
 use Rattle.bound_rules.specs.Strict.{bodyOf}
 use Rattle.bound_rules.specs.Amount.{amountAt, calledAmount, codeAmount, bodyAmount, largestIn, nameAmount, amountsBelow, amounts}
 use Rattle.bound_rules.specs.BoundQuestion.{amountLimit, counted}

@@ -8,7 +8,7 @@ use Rattle.lists.proofs.PairwiseLaws.{pairwise-at}
 use Rattle.sheet_rules.specs.declared.Member.{Member}
 use Rattle.sheet_rules.specs.Sheet.{Part, init, noMember, formAt}
 use Rattle.sheet_rules.specs.WellFormed.{PartOf}
-use Rattle.type_rules.specs.Typing.{membersAt}
+use Rattle.type_rules.specs.SlotRows.{membersAt}
 use Rattle.table.specs.Layout.{workSize}
 use Rattle.table.specs.View.{memberIn, partIn, sheetIn}
 use Rattle.table.specs.declared.forms.PartPlace.{PartPlace}

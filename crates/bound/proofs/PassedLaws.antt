@@ -18,7 +18,7 @@ use Rattle.sheet_rules.specs.RowLines.{nameOf}
 use Rattle.sheet_rules.specs.Sheet.{Instr, Part, init, body, noMember, formAt}
 use Rattle.sheet_rules.specs.WellFormed.{NamesAscend, end, above, PartOf}
 use Rattle.machine_rules.specs.Step.{bodyIn}
-use Rattle.type_rules.specs.Typing.{membersAt}
+use Rattle.type_rules.specs.SlotRows.{membersAt}
 use Rattle.table.specs.View.{memberIn, partIn, sheetIn}
 use Rattle.table.specs.declared.forms.PartPlace.{PartPlace}
 use Rattle.table.specs.Told.{partTold}

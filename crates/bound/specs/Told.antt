@@ -12,7 +12,8 @@ use Rattle.sheet_rules.specs.declared.Reason.the-variants.{CircularCall}
 use Rattle.sheet_rules.specs.Limits.{nameLimit}
 use Rattle.sheet_rules.specs.RowLines.{nameOf}
 use Rattle.sheet_rules.specs.Sheet.{Instr, calledName, Part, init, body, Sheet, formAt}
-use Rattle.type_rules.specs.Typing.{Fault, unless, membersAt, partsFaults, formsFaults}
+use Rattle.type_rules.specs.SlotRows.{membersAt}
+use Rattle.type_rules.specs.Typing.{Fault, unless, partsFaults, formsFaults}
 use Rattle.bound_rules.specs.Strict.{callsBelow, strictLines, bodyOf}
 use Rattle.bound_rules.specs.Amount.{amountAt, bodyAmount, nameAmount, amounts}
 use Rattle.bound_rules.specs.BoundQuestion.{amountLimit}

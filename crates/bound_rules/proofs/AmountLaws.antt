@@ -16,7 +16,7 @@ use Rattle.sheet_rules.specs.Limits.{nameLimit}
 use Rattle.sheet_rules.specs.Sheet.{Instr, calledName, Part, body, Form, Sheet}
 use Rattle.sheet_rules.specs.RowLines.{nameOf}
 use Rattle.sheet_rules.specs.WellFormed.{WellFormed}
-use Rattle.type_rules.specs.Typing.{membersAt}
+use Rattle.type_rules.specs.SlotRows.{membersAt}
 use Rattle.machine_rules.specs.Step.{bodyIn}
 use Rattle.bound_rules.specs.Strict.{bodyOf, CallsBelow, Strict}
 use Rattle.bound_rules.specs.Amount.{amountAt, calledAmount, codeAmount, bodyAmount, largestIn, nameAmount, amountsBelow, amounts}

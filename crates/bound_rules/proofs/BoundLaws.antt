@@ -17,7 +17,7 @@ use Rattle.sheet_rules.specs.Sheet.{Sheet}
 use Rattle.sheet_rules.specs.Reading.{Meaning, readable, unreadable, meaning}
 use Rattle.sheet_rules.proofs.ReadingLaws.{readable-wellFormed}
 use Rattle.type_rules.specs.Typing.{typing, verdictOn, verdict, ifAccepted, acceptedOn}
-use Rattle.type_rules.proofs.TypingLaws.{refused-on, accepted-on}
+use Rattle.type_rules.proofs.VerdictLaws.{refused-on, accepted-on}
 use Rattle.bound_rules.specs.declared.BoundReply.{BoundReply}
 use Rattle.bound_rules.specs.declared.BoundReply.the-variants.{Needs}
 use Rattle.bound_rules.specs.Strict.{strictness, Strict}

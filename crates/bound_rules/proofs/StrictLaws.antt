@@ -24,7 +24,8 @@ use Rattle.sheet_rules.specs.Reading.{readable, meaning}
 use Rattle.sheet_rules.specs.RowLines.{nameOf}
 use Rattle.sheet_rules.specs.WellFormed.{NamesAscend, end, above, WellFormed}
 use Rattle.sheet_rules.specs.Print.{instrWritten}
-use Rattle.type_rules.specs.Typing.{membersAt, mainRows, Fault, unless, Own, InstrJudge, codeFaults, rowsAfter, bodyRows, partFaults, partsFaults, keepFaults, formFaults, formsFaults, devicesFaults, mainFaults, lineFaults, firstFormLine}
+use Rattle.type_rules.specs.SlotRows.{membersAt, mainRows, Own, rowsAfter, bodyRows}
+use Rattle.type_rules.specs.Typing.{Fault, unless, InstrJudge, codeFaults, partFaults, partsFaults, keepFaults, formFaults, formsFaults, devicesFaults, mainFaults, lineFaults, firstFormLine}
 use Rattle.type_rules.proofs.TypingLaws.{Faultless, firstFault-faultless, unless-passed}
 use Rattle.type_rules.proofs.TypedLaws.{faultless-cons, faultless-append, firstFault-accepts, passed}
 use Rattle.type_rules.proofs.FaultLines.{FormIs, FaultOf, of-form, of-keep, of-init, of-body, of-instr, of-devices, of-device, of-main, of-main-instr, fault-line}

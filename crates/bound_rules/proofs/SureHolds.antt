@@ -17,8 +17,9 @@ use Rattle.sheet_rules.specs.Sheet.{Instr, new, call, get, put, copy, calledNam
 use Rattle.sheet_rules.specs.WellFormed.{WellFormed}
 use Rattle.sheet_rules.specs.Reading.{meaning}
 use Rattle.sheet_rules.proofs.ReadingLaws.{readable-wellFormed}
-use Rattle.type_rules.specs.Typing.{membersAt, typing, verdict}
-use Rattle.type_rules.proofs.TypingLaws.{accepted-on}
+use Rattle.type_rules.specs.SlotRows.{membersAt}
+use Rattle.type_rules.specs.Typing.{typing, verdict}
+use Rattle.type_rules.proofs.VerdictLaws.{accepted-on}
 use Rattle.machine_rules.specs.declared.Outcome.{Outcome}
 use Rattle.machine_rules.specs.declared.Outcome.the-variants.{Done, Spent, StoreFull, StackFull}
 use Rattle.machine_rules.specs.declared.RunReply.{RunReply}

@@ -13,7 +13,7 @@ use Rattle.sheet_rules.specs.Print.{print}
 use Rattle.sheet_rules.specs.Reading.{meaning}
 use Rattle.sheet_rules.specs.Samples.{textOf}
 use Rattle.type_rules.specs.Typing.{typing, verdict, acceptedOn}
-use Rattle.type_rules.proofs.TypingLaws.{accepted-on}
+use Rattle.type_rules.proofs.VerdictLaws.{accepted-on}
 use Rattle.machine_rules.specs.declared.Outcome.{Outcome}
 use Rattle.machine_rules.specs.declared.Outcome.the-variants.{Spent, StoreFull, StackFull}
 use Rattle.machine_rules.specs.declared.RunReply.{RunReply}

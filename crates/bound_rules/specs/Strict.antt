@@ -10,7 +10,8 @@ use Rattle.lists.specs.In.{In}
 use Rattle.sheet_rules.specs.declared.Reason.the-variants.{CircularCall}
 use Rattle.sheet_rules.specs.declared.Verdict.{Verdict}
 use Rattle.sheet_rules.specs.Sheet.{Instr, calledName, Form, Sheet}
-use Rattle.type_rules.specs.Typing.{membersAt, unless, LineJudge, lineFaults, firstFault, firstFormLine}
+use Rattle.type_rules.specs.SlotRows.{membersAt}
+use Rattle.type_rules.specs.Typing.{unless, LineJudge, lineFaults, firstFault, firstFormLine}
 use Rattle.machine_rules.specs.Step.{bodyIn}
 
 -- in a body of method n: no call, or one of a name below; the own name is not below (order 4)

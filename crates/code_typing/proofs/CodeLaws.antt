@@ -18,7 +18,8 @@ use Rattle.sheet_rules.specs.declared.Reason.{Reason}
 use Rattle.sheet_rules.specs.Sheet.{Instr, copy, Sheet, rowAt}
 use Rattle.sheet_rules.specs.WellFormed.{WellFormed}
 use Rattle.type_rules.specs.Fit.{rowAnswer}
-use Rattle.type_rules.specs.Typing.{Fault, Own, firstOf, instrFault, resultFault, slotRow, slotRows, codeFaults}
+use Rattle.type_rules.specs.SlotRows.{Own, slotRow, slotRows}
+use Rattle.type_rules.specs.Typing.{Fault, firstOf, instrFault, resultFault, codeFaults}
 use Rattle.type_rules.proofs.TypingLaws.{result-row}
 use Rattle.table.specs.Layout.{fitAddress, slotRowAddress, workSize}
 use Rattle.table.specs.View.{cell, instrIn, instrsIn, sheetIn}

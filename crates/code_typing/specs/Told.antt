@@ -7,7 +7,8 @@ use mathlib.Core.Option.{Option, none}
 use lib.ListN.{length}
 use Rattle.sheet_rules.specs.declared.FitAnswer.{FitAnswer}
 use Rattle.sheet_rules.specs.Sheet.{Instr}
-use Rattle.type_rules.specs.Typing.{Fault, firstOf, instrFault, resultFault, slotRow, slotRows, Own, InstrJudge, LineJudge, codeFaults, typedInstr, typedLines}
+use Rattle.type_rules.specs.SlotRows.{slotRow, slotRows, Own}
+use Rattle.type_rules.specs.Typing.{Fault, firstOf, instrFault, resultFault, InstrJudge, LineJudge, codeFaults, typedInstr, typedLines}
 use Rattle.table.specs.Layout.{slotRowAddress, slotRowsEnd}
 use Rattle.table.specs.Only.{Only}
 use Rattle.table.specs.Told.{slotRowsIn}

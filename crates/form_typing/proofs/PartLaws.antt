@@ -11,7 +11,8 @@ use Rattle.sheet_rules.specs.declared.Member.{Member}
 use Rattle.sheet_rules.specs.declared.Member.the-variants.{Method, Field}
 use Rattle.sheet_rules.specs.Sheet.{Instr, Part, body, Sheet, formAt}
 use Rattle.sheet_rules.specs.WellFormed.{PartOf}
-use Rattle.type_rules.specs.Typing.{Fault, slotRows, initFault, codeFaults, typedInstr}
+use Rattle.type_rules.specs.SlotRows.{slotRows}
+use Rattle.type_rules.specs.Typing.{Fault, initFault, codeFaults, typedInstr}
 use Rattle.table.specs.Layout.{slotRowAddress}
 use Rattle.table.specs.View.{instrIn, instrsIn, sheetIn}
 use Rattle.table.specs.declared.forms.PartPlace.{PartPlace}

@@ -16,7 +16,8 @@ use Rattle.sheet_rules.specs.declared.Member.the-variants.{Method, Field}
 use Rattle.sheet_rules.specs.declared.Reason.{Reason}
 use Rattle.sheet_rules.specs.Sheet.{Instr, Part, init, body, Form, Sheet, noMember, formAt}
 use Rattle.sheet_rules.specs.WellFormed.{PartOf}
-use Rattle.type_rules.specs.Typing.{Fault, Own, membersAt, bodyRows, rowsAfter, InstrJudge, LineJudge, codeFaults, partFaults, partsFaults, typedLines}
+use Rattle.type_rules.specs.SlotRows.{Own, membersAt, bodyRows, rowsAfter}
+use Rattle.type_rules.specs.Typing.{Fault, InstrJudge, LineJudge, codeFaults, partFaults, partsFaults, typedLines}
 use Rattle.table.specs.Layout.{slotRowAddress}
 use Rattle.table.specs.View.{instrIn, instrsIn, memberIn, partIn, sheetIn}
 use Rattle.table.specs.declared.forms.PartPlace.{PartPlace}

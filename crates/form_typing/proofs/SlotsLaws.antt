@@ -8,7 +8,7 @@ use lib.ListN.{length, getD, set}
 use lib.Seq.{getD-set-same, getD-set-other, ext-getD}
 use Rattle.lists.proofs.TabLaws.{length-tab, getD-tab}
 use Rattle.sheet_rules.specs.Sheet.{Sheet, formAt}
-use Rattle.type_rules.specs.Typing.{bodyRows}
+use Rattle.type_rules.specs.SlotRows.{bodyRows}
 use Rattle.table.specs.Layout.{slotRowAddress, workSize}
 use Rattle.table.specs.View.{cell, sheetIn}
 use Rattle.table.specs.Told.{slotRowsIn}

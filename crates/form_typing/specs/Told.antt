@@ -6,7 +6,8 @@ use mathlib.Core.Option.{none, some}
 use lib.ListN.{getD}
 use Rattle.sheet_rules.specs.declared.Member.{Member}
 use Rattle.sheet_rules.specs.Sheet.{formAt}
-use Rattle.type_rules.specs.Typing.{Fault, membersAt, slotRows, bodyRows, codeFaults, partFaults, partsFaults, keepFaults, formFaults}
+use Rattle.type_rules.specs.SlotRows.{membersAt, slotRows, bodyRows}
+use Rattle.type_rules.specs.Typing.{Fault, codeFaults, partFaults, partsFaults, keepFaults, formFaults}
 use Rattle.table.specs.Layout.{slotRowAddress}
 use Rattle.table.specs.View.{cell, instrsIn, sheetIn}
 use Rattle.table.specs.declared.forms.PartPlace.{PartPlace}

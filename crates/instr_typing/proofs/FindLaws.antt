@@ -14,7 +14,7 @@ use Rattle.lists.proofs.Tests.{clash}
 use Rattle.sheet_rules.specs.declared.Member.{Member}
 use Rattle.sheet_rules.specs.declared.Member.the-variants.{Method, Field}
 use Rattle.sheet_rules.specs.Sheet.{noMember}
-use Rattle.type_rules.specs.Typing.{Signature, methodIn, fieldIn, membersAt}
+use Rattle.type_rules.specs.SlotRows.{Signature, methodIn, fieldIn, membersAt}
 use Rattle.table.specs.Layout.{workSize}
 use Rattle.table.specs.View.{memberIn, sheetIn}
 use Rattle.table.specs.Whole.{Whole}

@@ -8,7 +8,8 @@ use Rattle.lists.proofs.Tests.{clash}
 use Rattle.sheet_rules.specs.declared.FitAnswer.{FitAnswer}
 use Rattle.sheet_rules.specs.declared.Reason.{Reason}
 use Rattle.sheet_rules.specs.declared.Reason.the-variants.{NoSuchMember}
-use Rattle.type_rules.specs.Typing.{Signature, Fault, Own, methodIn, membersAt, ownField}
+use Rattle.type_rules.specs.SlotRows.{Signature, Own, methodIn, membersAt, ownField}
+use Rattle.type_rules.specs.Typing.{Fault}
 use Rattle.table.specs.View.{instrIn, sheetIn}
 use Rattle.table.specs.Told.{newSlots, instrTold, slotRowsIn}
 use Rattle.table.specs.declared.instrs.Instruction.{Instruction}

@@ -4,7 +4,8 @@ use mathlib.Core.List.{List}
 use mathlib.Core.Option.{Option, none, some}
 use Rattle.sheet_rules.specs.declared.FitAnswer.{FitAnswer}
 use Rattle.sheet_rules.specs.Sheet.{Instr, formAt}
-use Rattle.type_rules.specs.Typing.{Signature, Fault, Own, fitFault, newFault, callFault, getFault, putFault, instrFault, resultOf, rowOr0, slotRow}
+use Rattle.type_rules.specs.SlotRows.{Signature, Own, resultOf, rowOr0, slotRow}
+use Rattle.type_rules.specs.Typing.{Fault, fitFault, newFault, callFault, getFault, putFault, instrFault}
 use Rattle.table.specs.View.{sheetIn}
 use Rattle.table.specs.Told.{slotRowsIn}
 use Rattle.fit_answer.specs.Told.{answers}

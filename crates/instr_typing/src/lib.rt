@@ -3,7 +3,7 @@ ghost use mathlib.Core.Path.{_≡_};
 ghost use mathlib.Core.List.{[], _∷_};
 ghost use Prim.Native.Nat.{_≤_};
 ghost use lib.ListN.{getD};
-ghost use Rattle.type_rules.specs.Typing.{methodIn, fieldIn, membersAt, ownField};
+ghost use Rattle.type_rules.specs.SlotRows.{methodIn, fieldIn, membersAt, ownField};
 ghost use Rattle.table.specs.View.{instrIn, sheetIn};
 ghost use Rattle.table.specs.Told.{newSlots, slotRowsIn};
 ghost use Rattle.table.specs.Whole.{Whole};

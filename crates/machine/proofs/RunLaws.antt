@@ -51,8 +51,8 @@ took-running w t k w′ t′ k′ r o =
 
 -- the start
 
-pub able-running : (w : List ℕ) → Ready w → Running w (startTop w) (startTally (cell w deviceCountAt))
-able-running w r =
+pub ready-running : (w : List ℕ) → Ready w → Running w (startTop w) (startTally (cell w deviceCountAt))
+ready-running w r =
     let a : Able w = r .able in
     record {
       accepted = a .accepted;
@@ -73,7 +73,7 @@ pub going-start : (w : List ℕ) (budget : ℕ) → Ready w → Going w budget w
 unfolding run
 going-start w budget a =
     record {
-      running = able-running w a;
+      running = ready-running w a;
       only = only-refl (objectAddress 0) stateEnd w;
       within = omega arith;
       same = (let n : budget - 0 ≡ budget = omega arith in λ i. runFrom (sheetIn w) (n i) 0 (start-is w a i));

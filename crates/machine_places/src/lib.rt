@@ -2,7 +2,7 @@
 ghost use mathlib.Core.Path.{_≡_};
 ghost use Prim.Native.Nat.{_≤_, _<_};
 ghost use lib.ListN.{length};
-ghost use Rattle.type_rules.specs.Typing.{membersAt};
+ghost use Rattle.type_rules.specs.SlotRows.{membersAt};
 ghost use Rattle.table.specs.Layout.{placeAddress, workSize};
 ghost use Rattle.table.specs.View.{cell as cellOf, sheetIn};
 ghost use Rattle.table.specs.Whole.{Whole};

@@ -15,7 +15,7 @@ use Rattle.sheet_rules.specs.declared.Member.{Member}
 use Rattle.sheet_rules.specs.declared.Member.the-variants.{Method, Field}
 use Rattle.sheet_rules.specs.Sheet.{Instr, Part, body, Form, Sheet}
 use Rattle.sheet_rules.specs.WellFormed.{WellFormedBody, PartOf}
-use Rattle.type_rules.specs.Typing.{Signature, methodIn, fieldIn, membersAt, Own, ownField, bodyRows}
+use Rattle.type_rules.specs.SlotRows.{Signature, methodIn, fieldIn, membersAt, Own, ownField, bodyRows}
 use Rattle.type_rules.specs.Typed.{CodeTyped, PartTyped, typed-init, typed-body}
 use Rattle.machine_rules.specs.State.{Object, objectAt, lastOf}
 use Rattle.machine_rules.specs.Step.{bodyIn, nextPlace, fieldPlace, membersOf}

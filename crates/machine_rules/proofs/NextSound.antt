@@ -18,7 +18,7 @@ use Rattle.sheet_rules.specs.Limits.{keepLimit, bodyLimit, storeLimit, stackLim
 use Rattle.sheet_rules.specs.Sheet.{Instr, new, call, get, put, copy, Form, Sheet, noForm, formAt}
 use Rattle.sheet_rules.specs.WellFormed.{WellFormedForm, WellFormed}
 use Rattle.type_rules.specs.Fit.{fits}
-use Rattle.type_rules.specs.Typing.{Signature, methodIn, membersAt, lastRow, bodyRows}
+use Rattle.type_rules.specs.SlotRows.{Signature, methodIn, membersAt, lastRow, bodyRows}
 use Rattle.type_rules.specs.Typed.{SlotFits, InstrTyped, typed-new, typed-call, typed-get, typed-put, typed-copy, ResultFits, declared, CodeTyped, end, next, FormTyped, Typed}
 use Rattle.type_rules.proofs.FitLaws.{fits-refl}
 use Rattle.type_rules.proofs.LookUpLaws.{Found, fits-method}

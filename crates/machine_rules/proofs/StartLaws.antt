@@ -16,7 +16,8 @@ use Rattle.sheet_rules.specs.declared.Member.{Member}
 use Rattle.sheet_rules.specs.Sheet.{Part, Sheet, noForm, formAt, rowOfForm}
 use Rattle.sheet_rules.specs.WellFormed.{PartOf, field, method, WellFormed}
 use Rattle.type_rules.specs.Fit.{fits}
-use Rattle.type_rules.specs.Typing.{mainRows, isPure, membersAt}
+use Rattle.type_rules.specs.SlotRows.{mainRows, membersAt}
+use Rattle.type_rules.specs.Typing.{isPure}
 use Rattle.type_rules.specs.Typed.{DeviceTyped, FormTyped, Typed}
 use Rattle.type_rules.proofs.FitLaws.{fits-refl}
 use Rattle.machine_rules.specs.State.{Object, noObject, objectAt, initialFields, made, start}

@@ -12,7 +12,7 @@ use Rattle.lists.proofs.Tests.{clash}
 use Rattle.sheet_rules.specs.Limits.{storeLimit, stackLimit}
 use Rattle.sheet_rules.specs.Sheet.{Instr, new, call, Sheet}
 use Rattle.sheet_rules.specs.WellFormed.{WellFormed}
-use Rattle.type_rules.specs.Typing.{Own}
+use Rattle.type_rules.specs.SlotRows.{Own}
 use Rattle.type_rules.specs.Typed.{Typed}
 use Rattle.machine_rules.specs.State.{Frame, State, frameCount, lastOf}
 use Rattle.machine_rules.specs.Step.{finished, storeFull, stackFull, nextStep}

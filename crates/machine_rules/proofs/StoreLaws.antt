@@ -14,7 +14,7 @@ use Rattle.lists.proofs.PairwiseLaws.{pairwise-length, pairwise-map, pairwise-a
 use Rattle.sheet_rules.specs.declared.Member.{Member}
 use Rattle.sheet_rules.specs.Sheet.{Part, Form, Sheet, formAt}
 use Rattle.type_rules.specs.Fit.{fits}
-use Rattle.type_rules.specs.Typing.{Own}
+use Rattle.type_rules.specs.SlotRows.{Own}
 use Rattle.type_rules.specs.Typed.{SlotFits, PartTyped, typed-init, typed-body}
 use Rattle.type_rules.proofs.FitLaws.{fits-trans}
 use Rattle.machine_rules.specs.State.{Object, Frame, noObject, objectAt, initialFields}

@@ -12,7 +12,7 @@ use Rattle.sheet_rules.specs.declared.Member.the-variants.{Method, Field}
 use Rattle.sheet_rules.specs.Limits.{keepLimit, bodyLimit, storeLimit, stackLimit}
 use Rattle.sheet_rules.specs.Sheet.{Sheet, formAt}
 use Rattle.type_rules.specs.Fit.{fits}
-use Rattle.type_rules.specs.Typing.{Own, membersAt}
+use Rattle.type_rules.specs.SlotRows.{Own, membersAt}
 use Rattle.type_rules.specs.Typed.{CodeTyped}
 use Rattle.machine_rules.specs.State.{Object, Frame, State, frameCount, objectAt}
 

@@ -1,4 +1,4 @@
--- The lines of the devices (document 02, order 7). Stands on Limits, Keys, Reader.
+-- The lines of the devices (document 02, order 7). Stands on Limits, Keys, Lines and Reader.
 use Prim.Native.Nat.{ℕ}
 use mathlib.Core.Bool.{Bool, false, cond}
 use mathlib.Core.List.{List, [], _∷_}

@@ -1,4 +1,5 @@
--- The two sheets of document 01 as texts, one with devices, and how to vary them (One sheet in full; document 02, order 7). Stands on Keys, for the bytes of a text.
+-- The two sheets of document 01 and one with devices, as texts, and how to vary them (One sheet in full; document 02, order 7).
+-- Stands on Keys, for the bytes of a text.
 use Prim.Native.Nat.{ℕ, pred}
 use Prim.Native.String.{String}
 use mathlib.Core.List.{List, [], _∷_, _++_}

@@ -1,4 +1,5 @@
--- What a sheet says, as a value: rows, forms, devices and main (document 01, The sheet; document 02, order 7). Stands on the shared types alone.
+-- What a sheet says, as a value: rows, forms, devices and main (document 01, The sheet; document 02, order 7). Stands on the shared
+-- types alone.
 use Prim.Native.Nat.{ℕ, _+_}
 use mathlib.Core.Bool.{Bool, false}
 use mathlib.Core.List.{List, [], _∷_}

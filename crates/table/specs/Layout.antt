@@ -23,9 +23,6 @@ deviceCountAt = 4
 abbrev pub deviceAddress : ℕ → ℕ
 deviceAddress i = 5 + min i 7
 
-abbrev pub deviceEnd : ℕ → ℕ
-deviceEnd i = deviceAddress i + 1
-
 -- 64 rows of 36: kind, number of members, two to spare, and 8 members of 4 (kind of member, name, and one or two rows)
 abbrev pub rowAddress : ℕ → ℕ
 rowAddress i = 16 + 36 * min i 63
@@ -58,9 +55,6 @@ keepCountAddress f = formAddress f + 1
 
 abbrev pub partCountAddress : ℕ → ℕ
 partCountAddress f = formAddress f + 2
-
-abbrev pub keepEnd : ℕ → ℕ → ℕ
-keepEnd f j = keepAddress f j + 1
 
 abbrev pub bodyStartAddress : ℕ → ℕ → ℕ
 bodyStartAddress f j = partAddress f j + 1

@@ -21,7 +21,8 @@ use Rattle.sheet_rules.specs.declared.Reason.the-variants.{Misfit}
 use Rattle.sheet_rules.specs.Sheet.{Row, Instr, new, call, get, put, copy, Part, init, body, Form, Sheet, noRow, noForm, formAt}
 use Rattle.sheet_rules.specs.RowLines.{mentionsBelow}
 use Rattle.sheet_rules.specs.WellFormed.{Mentions, WellFormed}
-use Rattle.type_rules.specs.Typing.{Signature, methodIn, fieldIn, membersAt, Own, ownField, resultOf, rowOr0, slotRow, bodyRows, mainRows, Fault, unless, firstOf, fitFault, slotsFault, callFault, putFault, instrFault, resultFault, codeFaults, partFaults, partsFaults, keepFaults, formFaults, formsFaults, devicesFaults, lineFaults, typedInstr, typedLines}
+use Rattle.type_rules.specs.SlotRows.{Signature, methodIn, fieldIn, membersAt, Own, ownField, resultOf, rowOr0, slotRow, bodyRows, mainRows}
+use Rattle.type_rules.specs.Typing.{Fault, unless, firstOf, fitFault, slotsFault, callFault, putFault, instrFault, resultFault, codeFaults, partFaults, partsFaults, keepFaults, formFaults, formsFaults, devicesFaults, lineFaults, typedInstr, typedLines}
 use Rattle.type_rules.proofs.TypingLaws.{result-row}
 
 -- what holds of a list's elements, and of what stands in where there is none, holds of all that is looked up
@@ -41,7 +42,7 @@ mentions-more i k h (Method n a r) t =
     and-intro (ltb a k) (ltb r k) (lt→ltb a k (omega arith)) (lt→ltb r k (omega arith))
 mentions-more i k h (Field n r) t = let p : r < i = ltb→lt r i t in lt→ltb r k (omega arith)
 
--- the argument's row, with row 0 where no method was found, as for the result's (Typing.resultOf)
+-- the argument's row, with row 0 where no method was found, as for the result's (SlotRows.resultOf)
 abbrev argumentOf : Option Signature → ℕ
 argumentOf none = 0
 argumentOf (some m) = m .argument

@@ -25,7 +25,8 @@ use Rattle.sheet_rules.specs.Print.{memberWritten, rowWritten, rowsWritten, ins
 use Rattle.sheet_rules.proofs.ReadingLaws.{readable-wellFormed}
 use Rattle.sheet_rules.proofs.RoundTrip.{readable-lines}
 use Rattle.type_rules.specs.Fit.{fitAnswer}
-use Rattle.type_rules.specs.Typing.{Own, membersAt, bodyRows, mainRows, Fault, rowsAfter, InstrJudge, LineJudge, codeFaults, partFaults, partsFaults, formFaults, formsFaults, devicesFaults, lineFaults, typedLines, firstFault, rowLines, firstFormLine, typing}
+use Rattle.type_rules.specs.SlotRows.{Own, membersAt, bodyRows, mainRows, rowsAfter}
+use Rattle.type_rules.specs.Typing.{Fault, InstrJudge, LineJudge, codeFaults, partFaults, partsFaults, formFaults, formsFaults, devicesFaults, lineFaults, typedLines, firstFault, rowLines, firstFormLine, typing}
 
 -- form f is number n of the sheet's
 pub record FormIs (s : Sheet) (n : ℕ) (f : Form) : Type 0 where
@@ -126,7 +127,8 @@ unfolding rowsWritten rowLines
 rows-count [] = refl
 rows-count (a ∷ bs) = omega (arith, length-append (rowWritten a) (rowsWritten bs), rows-count bs, length-map (a .members) memberWritten)
 
--- by any judge, line n of a text whose first fault is on line n is that of the form, kept row, part, device or instruction whose fault it is
+-- by any judge, line n of a text whose first fault is on line n is that of the form, kept row, part, device or instruction whose fault
+-- it is
 pub fault-line : {judge : LineJudge} (text : List ℕ) {s : Sheet} → meaning text ≡ readable s → {r : Reason} {n : ℕ} → firstFault (firstFormLine s) (lineFaults judge s) ≡ Refused r n
     → FaultOf judge s (some r) (getD (linesOf text) (pred n) torn)
 fault-line {judge} text {s} e {r} {n} t =

@@ -6,6 +6,7 @@ pub mod WalkLaws
 pub mod EnoughLaws
 pub mod PassedCases
 pub mod TypingLaws
+pub mod VerdictLaws
 pub mod LookUpLaws
 pub mod TypedLaws
 pub mod AgreeLaws

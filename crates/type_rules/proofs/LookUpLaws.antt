@@ -18,7 +18,8 @@ use Rattle.sheet_rules.specs.Sheet.{Sheet, rowAt}
 use Rattle.sheet_rules.specs.RowLines.{nameOf}
 use Rattle.sheet_rules.specs.WellFormed.{NamesAscend, above, WellFormed}
 use Rattle.type_rules.specs.Fit.{kindFits, matches, rowAnswer, fits}
-use Rattle.type_rules.specs.Typing.{Signature, methodIn, membersAt, isPure}
+use Rattle.type_rules.specs.SlotRows.{Signature, methodIn, membersAt}
+use Rattle.type_rules.specs.Typing.{isPure}
 use Rattle.type_rules.proofs.FitLaws.{hasMatch-at, row-kind, row-member, fit-rule}
 
 -- LOOK-UPS

@@ -19,14 +19,15 @@ use Rattle.sheet_rules.specs.declared.Reason.the-variants.{ImpureForm, Misfit, 
 use Rattle.sheet_rules.specs.declared.Verdict.the-variants.{Refused}
 use Rattle.sheet_rules.specs.Answers.{answerLack}
 use Rattle.sheet_rules.specs.Lines.{Line, torn, linesOf}
-use Rattle.sheet_rules.specs.Sheet.{Instr, new, call, get, put, copy, Sheet, rowAt, formAt, rowOfForm}
+use Rattle.sheet_rules.specs.Sheet.{Instr, new, call, get, put, copy, Sheet, rowAt, formAt}
 use Rattle.sheet_rules.specs.Reading.{readable, meaning}
 use Rattle.sheet_rules.specs.Print.{instrWritten}
 use Rattle.sheet_rules.specs.WellFormed.{WellFormed}
 use Rattle.sheet_rules.proofs.ReadingLaws.{readable-wellFormed}
 use Rattle.type_rules.specs.Fit.{fitAnswer}
 use Rattle.type_rules.specs.Says.{Lacking, lacks-slots, lacks-fit}
-use Rattle.type_rules.specs.Typing.{Signature, Own, methodIn, membersAt, ownField, slotRows, lastRow, Fault, unless, firstOf, fitFault, slotsFault, newFault, callFault, getFault, putFault, instrFault, resultFault, isPure, hasField, typedInstr, typedLines, typing, verdictOn, verdict}
+use Rattle.type_rules.specs.SlotRows.{Signature, Own, methodIn, membersAt, ownField, slotRows, lastRow}
+use Rattle.type_rules.specs.Typing.{Fault, unless, firstOf, fitFault, slotsFault, newFault, callFault, getFault, putFault, instrFault, resultFault, isPure, hasField, isDevice, typedInstr, typedLines, typing, verdictOn, verdict}
 use Rattle.type_rules.proofs.AnswerLaws.{answer-exactly}
 use Rattle.type_rules.proofs.FaultLines.{FaultOf, of-form, of-keep, of-init, of-body, of-instr, of-devices, of-device, of-main, of-main-instr, refused-line}
 
@@ -142,7 +143,7 @@ module _ {s : Sheet} (w : WellFormed s) where
   line-lacks (of-body is) e = clash (cc)
   line-lacks (of-instr {r = r} {f = f} h i rows x is) e = typed-lacks (some (f .row)) (some r) rows x is e
   line-lacks of-devices e = clash (cc)
-  line-lacks (of-device {f = f} i) e = no-device (eqb (length ((formAt s f) .keeps)) 0 && not (isPure ((rowOfForm s f) .kind))) e
+  line-lacks (of-device {f = f} i) e = no-device (isDevice s f) e
   line-lacks of-main e = clash (cc)
   line-lacks (of-main-instr rows x is) e = typed-lacks none none rows x is e
 

@@ -4,7 +4,8 @@ use Rattle.type_rules.specs.Fit.{hasMatch, membersAnswer, fitUpTo, fitAn
 use Rattle.type_rules.specs.FitQuestion.{fitReply, fitTold}
 use Rattle.type_rules.specs.Passed.{upTo, lastName}
 use Rattle.type_rules.specs.Walk.{walk}
-use Rattle.type_rules.specs.Typing.{methodIn, fieldIn, slotRows, slotsFault, hasField, codeFaults, partsFaults, formsFaults, devicesFaults, lineFaults, firstFault, rowLines, typing, verdict}
+use Rattle.type_rules.specs.SlotRows.{methodIn, fieldIn, slotRows}
+use Rattle.type_rules.specs.Typing.{slotsFault, hasField, codeFaults, partsFaults, formsFaults, devicesFaults, lineFaults, firstFault, rowLines, typing, verdict}
 use Rattle.sheet_rules.proofs.Opened.{reading}
 
 unfoldable pub judging : Unit {0}

@@ -27,7 +27,8 @@ use Rattle.sheet_rules.specs.Reading.{readable, meaning}
 use Rattle.sheet_rules.specs.WellFormed.{WellFormed}
 use Rattle.sheet_rules.proofs.ReadingLaws.{readable-wellFormed}
 use Rattle.type_rules.specs.Fit.{fitAnswer, fits}
-use Rattle.type_rules.specs.Typing.{Own, resultOf, rowOr0, slotRow, slotRows, lastRow, Fault, unless, firstOf, fitFault, slotsFault, newFault, callFault, getFault, putFault, instrFault, resultFault, isPure, hasField, keepFault, deviceFault, LineJudge, codeFaults, partFaults, partsFaults, keepFaults, formFaults, formsFaults, devicesFaults, mainFaults, lineFaults, typedInstr, typedLines, firstFault, firstFormLine, typing, verdictOn, verdict}
+use Rattle.type_rules.specs.SlotRows.{Own, resultOf, rowOr0, slotRow, slotRows, lastRow}
+use Rattle.type_rules.specs.Typing.{Fault, unless, firstOf, fitFault, slotsFault, newFault, callFault, getFault, putFault, instrFault, resultFault, isPure, hasField, keepFault, deviceFault, LineJudge, codeFaults, partFaults, partsFaults, keepFaults, formFaults, formsFaults, devicesFaults, mainFaults, lineFaults, typedInstr, typedLines, firstFault, firstFormLine, typing, verdictOn, verdict}
 use Rattle.type_rules.specs.Typed.{SlotFits, InstrTyped, typed-new, typed-call, typed-get, typed-put, typed-copy, ResultFits, undeclared, declared, CodeTyped, end, next, PartTyped, typed-init, typed-body, FormTyped, DeviceTyped, Typed}
 use Rattle.type_rules.proofs.TypingLaws.{Faultless, lastRow-snoc, result-row, accepted-typed}
 

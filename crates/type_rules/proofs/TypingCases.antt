@@ -1,5 +1,5 @@
--- Computed cases of fit and typing: the six rows that document 01 runs as tests, a sheet for each refusal from 8 to 10 and for 14, and the walk
--- over lines with other judges than typing's. Assumes nothing.
+-- Computed cases of fit and typing: the six rows that document 01 runs as tests, a sheet for each refusal from 8 to 10 and for 14, and the
+-- walk over lines with other judges than typing's. Assumes nothing.
 use Prim.Native.Nat.{ℕ}
 use Prim.Native.String.{String}
 use mathlib.Core.Path.{_≡_, refl}

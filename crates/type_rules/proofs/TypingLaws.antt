@@ -19,16 +19,15 @@ use Rattle.sheet_rules.specs.declared.Member.{Member}
 use Rattle.sheet_rules.specs.declared.Member.the-variants.{Method, Field}
 use Rattle.sheet_rules.specs.declared.Reason.{Reason}
 use Rattle.sheet_rules.specs.declared.Reason.the-variants.{ImpureForm, Misfit, WrongDevice}
-use Rattle.sheet_rules.specs.declared.Verdict.{Verdict}
-use Rattle.sheet_rules.specs.declared.Verdict.the-variants.{Accepted, Refused}
+use Rattle.sheet_rules.specs.declared.Verdict.the-variants.{Accepted}
 use Rattle.sheet_rules.specs.Answers.{isYes}
 use Rattle.sheet_rules.specs.Sheet.{Row, Instr, new, call, get, put, copy, Part, init, body, Form, Sheet, rowAt, formAt, rowOfForm}
 use Rattle.sheet_rules.specs.FormLines.{allBelow, namesExist}
-use Rattle.sheet_rules.specs.Reading.{Meaning, readable, unreadable}
 use Rattle.sheet_rules.specs.WellFormed.{Scoped, WellFormedBody, PartOf, WellFormedForm, WellFormed}
 use Rattle.sheet_rules.proofs.FormLinesLaws.{first-below, others-below}
 use Rattle.type_rules.specs.Fit.{fitAnswer, fits}
-use Rattle.type_rules.specs.Typing.{Signature, methodIn, membersAt, Own, ownField, resultOf, rowOr0, slotRow, slotRows, lastRow, bodyRows, mainRows, Fault, unless, firstOf, fitFault, slotsFault, callFault, getFault, putFault, instrFault, resultFault, isPure, hasField, keepFault, deviceFault, LineJudge, codeFaults, partFaults, partsFaults, keepFaults, formFaults, formsFaults, devicesFaults, mainFaults, lineFaults, typedInstr, typedLines, firstFault, firstFormLine, typing, verdictOn, ifAccepted, acceptedOn}
+use Rattle.type_rules.specs.SlotRows.{Signature, methodIn, membersAt, Own, ownField, resultOf, rowOr0, slotRow, slotRows, lastRow, bodyRows, mainRows}
+use Rattle.type_rules.specs.Typing.{Fault, unless, firstOf, fitFault, slotsFault, callFault, getFault, putFault, instrFault, resultFault, isPure, hasField, keepFault, deviceFault, LineJudge, codeFaults, partFaults, partsFaults, keepFaults, formFaults, formsFaults, devicesFaults, mainFaults, lineFaults, typedInstr, typedLines, firstFault, firstFormLine, typing}
 use Rattle.type_rules.specs.Typed.{SlotFits, InstrTyped, typed-new, typed-call, typed-get, typed-put, typed-copy, ResultFits, undeclared, declared, CodeTyped, end, next, PartTyped, typed-init, typed-body, FormTyped, DeviceTyped, Typed}
 
 -- lines without a fault
@@ -272,30 +271,3 @@ module _ (s : Sheet) where
 
       all : Faultless (lineFaults ofTyping s)
       all = firstFault-faultless (firstFormLine s) (lineFaults ofTyping s) e
-
--- WHAT GOES ON FROM THE VERDICT
-
-module _ {A : Type 0} (judge : Sheet → Verdict) (refused : Reason → ℕ → A) (answer : Sheet → A) (m : Meaning) where
-  -- a text that the verdict refuses is refused so
-  pub refused-on : (q : Reason) (l : ℕ) → verdictOn judge m ≡ Refused q l → acceptedOn judge refused answer m ≡ refused q l
-  refused-on q l e = go m e
-    where
-      go : (x : Meaning) → verdictOn judge x ≡ Refused q l → acceptedOn judge refused answer x ≡ refused q l
-      go (readable s) v = ap (ifAccepted refused (answer s)) v
-      go (unreadable p n) v = ap (ifAccepted refused (refused p n)) v
-
-  -- one that it accepts goes on with its sheet
-  pub accepted-on : (s : Sheet) → m ≡ readable s → verdictOn judge m ≡ Accepted → acceptedOn judge refused answer m ≡ answer s
-  accepted-on s e v = ap (acceptedOn judge refused answer) e ∙ ap (ifAccepted refused (answer s)) (ap (verdictOn judge) (sym e) ∙ v)
-
-  -- two answers that agree on every sheet that it accepts are the same on the text
-  pub same-on : (other : Sheet → A) → ((s : Sheet) → m ≡ readable s → verdictOn judge m ≡ Accepted → answer s ≡ other s) → acceptedOn judge refused answer m ≡ acceptedOn judge refused other m
-  same-on other same = go m refl
-    where
-      judged : (s : Sheet) → m ≡ readable s → (v : Verdict) → judge s ≡ v → ifAccepted refused (answer s) v ≡ ifAccepted refused (other s) v
-      judged s e Accepted p = same s e (ap (verdictOn judge) e ∙ p)
-      judged s e (Refused q l) p = refl
-
-      go : (x : Meaning) → m ≡ x → acceptedOn judge refused answer x ≡ acceptedOn judge refused other x
-      go (readable s) e = judged s e (judge s) refl
-      go (unreadable q l) e = refl

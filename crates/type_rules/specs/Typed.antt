@@ -1,6 +1,6 @@
--- What it means that a sheet is well typed (document 01, Fit and typing; document 02, order 7), as the facts on which its run rests: every slot that
--- is named is filled and fits the place that it goes to. TypingLaws proves it of every accepted sheet, TypedLaws the converse.
--- Stands on Typing.
+-- What it means that a sheet is well typed (document 01, Fit and typing; document 02, order 7), as the facts on which its run rests: every
+-- slot that is named is filled and fits the place that it goes to. TypingLaws proves it of every accepted sheet, TypedLaws the
+-- converse. Stands on Typing.
 use Prim.Native.Nat.{ℕ, _<_}
 use mathlib.Core.Path.{_≡_}
 use mathlib.Core.List.{List, [], _∷_, _++_}
@@ -13,7 +13,8 @@ use Rattle.sheet_rules.specs.declared.Member.{Member}
 use Rattle.sheet_rules.specs.declared.Member.the-variants.{Method, Field}
 use Rattle.sheet_rules.specs.Sheet.{Instr, new, call, get, put, copy, Part, init, body, Form, Sheet, rowAt, formAt, rowOfForm}
 use Rattle.type_rules.specs.Fit.{fits}
-use Rattle.type_rules.specs.Typing.{Signature, methodIn, membersAt, Own, ownField, lastRow, bodyRows, mainRows, isPure, hasField}
+use Rattle.type_rules.specs.SlotRows.{Signature, methodIn, membersAt, Own, ownField, lastRow, bodyRows, mainRows}
+use Rattle.type_rules.specs.Typing.{isPure, hasField}
 
 -- after slots of the given rows, slot v is filled and fits row b (Fit and typing)
 pub record SlotFits (s : Sheet) (rows : List ℕ) (v b : ℕ) : Type 0 where

@@ -6,7 +6,6 @@ use native.Mathlib.Numerals.{add-one}
 use mathlib.Core.Path.{_≡_, refl, sym, ap, _∙_, subst}
 use mathlib.Core.Bool.{Bool, true, false, not, _&&_}
 use mathlib.Core.List.{List, [], _∷_, map}
-use lib.Dec.{eqb}
 use lib.ListN.{length, getD, drop, set, drop-of-length-le, length-map}
 use lib.Seq.{drop-cons, getD-set-same, getD-set-other}
 use borrow.Author.Tests.{eq-eqb, ne-eqb, not-true, not-false}
@@ -16,7 +15,8 @@ use Rattle.lists.proofs.Tests.{clash}
 use Rattle.sheet_rules.specs.declared.Kind.{Kind}
 use Rattle.sheet_rules.specs.declared.Reason.the-variants.{WrongDevice}
 use Rattle.sheet_rules.specs.Sheet.{Sheet, rowAt, formAt, rowOfForm}
-use Rattle.type_rules.specs.Typing.{mainRows, unless, isPure, deviceFault, LineJudge, devicesFaults}
+use Rattle.type_rules.specs.SlotRows.{mainRows}
+use Rattle.type_rules.specs.Typing.{unless, isPure, isDevice, deviceFault, LineJudge, devicesFaults}
 use Rattle.table.specs.Layout.{deviceCountAt, slotRowAddress, slotRowsEnd}
 use Rattle.table.specs.Told.{slotRowsIn}
 use Rattle.table.specs.View.{cell, sheetIn}
@@ -43,15 +43,12 @@ formIn w d = getD ((sheetIn w) .devices) d 0
 abbrev rowIn : List ℕ → ℕ → ℕ
 rowIn w d = (formAt (sheetIn w) (formIn w d)) .row
 
--- the test of a device's form
-abbrev pub passes : Sheet → ℕ → Bool
-passes s f = eqb (length ((formAt s f) .keeps)) 0 && not (isPure ((rowOfForm s f) .kind))
-
+-- the test of a device's form, by what it keeps and its kind
 module _ (s : Sheet) (f : ℕ) {k : ℕ} (k-is : k ≡ length ((formAt s f) .keeps)) where
-  pub not-bare : (k ≡ 0 → ⊥) → false ≡ passes s f
+  pub not-bare : (k ≡ 0 → ⊥) → false ≡ isDevice s f
   not-bare ne = sym (ap (λ (b : Bool). b && not (isPure ((rowOfForm s f) .kind))) (ne-eqb (length ((formAt s f) .keeps)) 0 (λ e. ne (k-is ∙ e))))
 
-  pub by-kind : k ≡ 0 → {a : ℕ} → a ≡ (formAt s f) .row → {kind kind′ : Kind} → kind ≡ (rowAt (s .rows) a) .kind → kind ≡ kind′ → not (isPure kind′) ≡ passes s f
+  pub by-kind : k ≡ 0 → {a : ℕ} → a ≡ (formAt s f) .row → {kind kind′ : Kind} → kind ≡ (rowAt (s .rows) a) .kind → kind ≡ kind′ → not (isPure kind′) ≡ isDevice s f
   by-kind e row-is told is =
       ap (λ (x : Kind). not (isPure x)) (sym is ∙ told ∙ ap (λ (a : ℕ). (rowAt (s .rows) a) .kind) row-is)
       ∙ sym (ap (λ (b : Bool). b && not (isPure ((rowOfForm s f) .kind))) (eq-eqb (length ((formAt s f) .keeps)) 0 (sym k-is ∙ e)))
@@ -95,12 +92,12 @@ module _ {first : ℕ} {w₀ w : List ℕ} {d line : ℕ} (g : Each first w₀ w
         past : length ((sheetIn w₀) .devices) ≤ d
         past = omega (arith, count-is, devices-length w₀)
 
-    module _ (l : d < count) {form : ℕ} (form-is : form ≡ formIn w d) {b : Bool} (told : b ≡ passes (sheetIn w) form) where
+    module _ (l : d < count) {form : ℕ} (form-is : form ≡ formIn w d) {b : Bool} (told : b ≡ isDevice (sheetIn w) form) where
       -- the line in hand, and those after it
       here : walk line (unless b WrongDevice ∷ map (deviceFault (sheetIn w₀)) (drop (suc d) ((sheetIn w₀) .devices))) ≡ walk first (deviceFaultsIn w₀)
       here =
           ap (λ (x : Bool). walk line (unless x WrongDevice ∷ map (deviceFault (sheetIn w₀)) (drop (suc d) ((sheetIn w₀) .devices))))
-          (told ∙ ap (passes (sheetIn w)) form-is ∙ (λ i. passes (same-sheet i) (getD (same-sheet i .devices) d 0)))
+          (told ∙ ap (isDevice (sheetIn w)) form-is ∙ (λ i. isDevice (same-sheet i) (getD (same-sheet i .devices) d 0)))
           ∙ sym (ap (λ (fs : List ℕ). walk line (map (deviceFault (sheetIn w₀)) fs)) (drop-cons ((sheetIn w₀) .devices) d 0 (omega (arith, count-is, devices-length w₀))))
           ∙ g .same
 

@@ -11,7 +11,8 @@ use Rattle.sheet_rules.specs.declared.FitAnswer.{FitAnswer}
 use Rattle.sheet_rules.specs.declared.Reason.{Reason}
 use Rattle.sheet_rules.specs.declared.Verdict.{Verdict}
 use Rattle.sheet_rules.specs.Sheet.{Row, Instr, Sheet, noRow, rowAt, formAt}
-use Rattle.type_rules.specs.Typing.{Fault, slotRows, mainRows, codeFaults, devicesFaults, mainFaults, lineFaults, typedLines, rowLines, firstFormLine, firstFault}
+use Rattle.type_rules.specs.SlotRows.{slotRows, mainRows}
+use Rattle.type_rules.specs.Typing.{Fault, codeFaults, devicesFaults, mainFaults, lineFaults, typedLines, rowLines, firstFormLine, firstFault}
 use Rattle.table.specs.Layout.{deviceCountAt}
 use Rattle.table.specs.View.{cell, sheetIn}
 use Rattle.table.specs.Whole.{Whole}

@@ -4,7 +4,8 @@ use mathlib.Core.Path.{_≡_}
 use mathlib.Core.List.{List, map}
 use mathlib.Core.Option.{none}
 use Rattle.sheet_rules.specs.declared.Verdict.{Verdict}
-use Rattle.type_rules.specs.Typing.{Fault, slotRows, mainRows, formsFaults, devicesFaults, mainFaults, lineFaults, firstFormLine, firstFault}
+use Rattle.type_rules.specs.SlotRows.{slotRows, mainRows}
+use Rattle.type_rules.specs.Typing.{Fault, formsFaults, devicesFaults, mainFaults, lineFaults, firstFormLine, firstFault}
 use Rattle.table.specs.View.{sheetIn}
 use Rattle.code_typing.specs.declared.Walked.{Walked}
 use Rattle.code_typing.specs.Told.{judgeIn, OnlySlots, LinesJudged}

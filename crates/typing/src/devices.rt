@@ -1,11 +1,8 @@
 // The lines of the devices, judged; the rows of main's first slots are put on the way.
 ghost use mathlib.Core.Path.{_≡_};
-ghost use mathlib.Core.Bool.{not, _&&_};
-ghost use Prim.Native.Nat.{_+_, _≤_, _<_};
-ghost use lib.Dec.{eqb};
-ghost use lib.ListN.{length};
-ghost use Rattle.sheet_rules.specs.Sheet.{formAt, rowOfForm};
-ghost use Rattle.type_rules.specs.Typing.{isPure, mainRows};
+ghost use Prim.Native.Nat.{_+_, _≤_};
+ghost use Rattle.type_rules.specs.SlotRows.{mainRows};
+ghost use Rattle.type_rules.specs.Typing.{isDevice};
 ghost use Rattle.table.specs.View.{sheetIn};
 ghost use Rattle.table.specs.Whole.{Whole};
 ghost use Rattle.code_typing.specs.Walk.{lineLimit};
@@ -19,7 +16,7 @@ use table::rows::wide;
 // Whether a form may be a device's: it keeps nothing, and is a resource.
 fn is_device(work: &[u16], f: usize) -> bool
     requires { ⌜ Whole (now work) ⌝ }
-    ensures { λ r. ⌜ r ≡ (eqb (length ((formAt (sheetIn (now (work .entry))) f) .keeps)) 0 && not (isPure ((rowOfForm (sheetIn (now (work .entry))) f) .kind))) ⌝ }
+    ensures { λ r. ⌜ r ≡ isDevice (sheetIn (now (work .entry))) f ⌝ }
 {
     if table::forms::keep_count(work, f) != 0 {
         return false;

@@ -1,7 +1,8 @@
 // The sheet in the table, judged: its forms, its devices, then main.
 ghost use mathlib.Core.Path.{_≡_};
 ghost use Prim.Native.Nat.{_+_, _≤_, _<_};
-ghost use Rattle.type_rules.specs.Typing.{mainRows, firstFormLine};
+ghost use Rattle.type_rules.specs.SlotRows.{mainRows};
+ghost use Rattle.type_rules.specs.Typing.{firstFormLine};
 ghost use Rattle.table.specs.Layout.{deviceCountAt};
 ghost use Rattle.table.specs.Told.{slotRowsIn};
 ghost use Rattle.table.specs.View.{cell, sheetIn};

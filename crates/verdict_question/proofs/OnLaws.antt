@@ -9,7 +9,7 @@ use Rattle.sheet_rules.specs.declared.Verdict.{Verdict}
 use Rattle.sheet_rules.specs.Sheet.{Sheet}
 use Rattle.sheet_rules.specs.Reading.{meaning}
 use Rattle.type_rules.specs.Typing.{typing, verdict, acceptedOn}
-use Rattle.type_rules.proofs.TypingLaws.{refused-on, accepted-on}
+use Rattle.type_rules.proofs.VerdictLaws.{refused-on, accepted-on}
 use Rattle.table.specs.View.{sheetIn}
 use Rattle.table.proofs.ViewLaws.{only-trans}
 use Rattle.question.specs.Asked.{Told}

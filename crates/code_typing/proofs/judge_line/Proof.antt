@@ -1,6 +1,7 @@
 use borrow.Author.Tests.{not-true, not-false}
 use mathlib.Core.Path.{sym, ap, _∙_}
-use Rattle.type_rules.specs.Typing.{instrFault, slotRow}
+use Rattle.type_rules.specs.SlotRows.{slotRow}
+use Rattle.type_rules.specs.Typing.{instrFault}
 use Rattle.table.specs.View.{instrIn, sheetIn}
 use Rattle.table.specs.Told.{slotRowsIn}
 use Rattle.fit_answer.specs.Told.{answers}

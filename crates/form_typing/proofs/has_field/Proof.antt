@@ -3,7 +3,8 @@ use native.Mathlib.Omega.{arith}
 use Prim.Native.Nat.{_-_, _<_}
 use lib.ListN.{length, drop}
 use mathlib.Core.Path.{_≡_, refl, sym, _∙_}
-use Rattle.type_rules.specs.Typing.{hasField, membersAt}
+use Rattle.type_rules.specs.SlotRows.{membersAt}
+use Rattle.type_rules.specs.Typing.{hasField}
 use Rattle.table.specs.View.{sheetIn}
 use Rattle.table.proofs.SheetLaws.{member-row-small, member-small, member-there}
 use Rattle.form_typing.proofs.HeadLaws.{field-next, field-hit, field-end}

@@ -3,7 +3,8 @@ use mathlib.Core.Path.{sym, _∙_}
 use mathlib.Core.Bool.{not, _&&_}
 use Rattle.sheet_rules.specs.declared.Reason.the-variants.{ImpureForm}
 use Rattle.sheet_rules.specs.Sheet.{rowAt}
-use Rattle.type_rules.specs.Typing.{isPure, hasField, membersAt}
+use Rattle.type_rules.specs.SlotRows.{membersAt}
+use Rattle.type_rules.specs.Typing.{isPure, hasField}
 use Rattle.table.specs.View.{sheetIn}
 use Rattle.form_typing.proofs.HeadLaws.{neither, not-both, both}
 use Rattle.code_typing.proofs.WalkLaws.{line-good, line-bad}

@@ -3,7 +3,7 @@ use native.Mathlib.Omega.{arith}
 use Prim.Native.Nat.{_-_, _<_}
 use lib.ListN.{length}
 use mathlib.Core.Path.{_∙_}
-use Rattle.type_rules.specs.Typing.{membersAt}
+use Rattle.type_rules.specs.SlotRows.{membersAt}
 use Rattle.table.specs.View.{sheetIn}
 use Rattle.table.specs.Whole.{Whole}
 use Rattle.table.proofs.SheetLaws.{member-row-small, member-small, forms-few}

@@ -1,7 +1,7 @@
 use Prim.Native.Nat.{ℕ}
 use lib.ListN.{getD}
 use mathlib.Core.Path.{ap, _∙_}
-use Rattle.type_rules.specs.Typing.{methodIn, membersAt}
+use Rattle.type_rules.specs.SlotRows.{methodIn, membersAt}
 use Rattle.table.specs.View.{sheetIn}
 use Rattle.table.specs.Told.{slotRowsIn}
 use Rattle.fit_answer.specs.Told.{answers}

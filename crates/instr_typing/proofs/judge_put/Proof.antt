@@ -1,4 +1,4 @@
-use Rattle.type_rules.specs.Typing.{ownField}
+use Rattle.type_rules.specs.SlotRows.{ownField}
 use Rattle.table.specs.View.{sheetIn}
 use Rattle.fit_answer.specs.Told.{answers}
 use Rattle.instr_typing.specs.Told.{rowFound}

@@ -1,5 +1,5 @@
 use mathlib.Core.Path.{sym, ap, _∙_}
-use Rattle.type_rules.specs.Typing.{ownField}
+use Rattle.type_rules.specs.SlotRows.{ownField}
 use Rattle.table.specs.View.{sheetIn}
 use Rattle.instr_typing.specs.declared.FoundRow.{FoundRow}
 use Rattle.instr_typing.specs.Told.{rowFound}
