@@ -15,13 +15,13 @@ use Rattle.machine_rules.specs.State.{Object, noObject, start}
 use Rattle.machine_rules.specs.Steps.{startTally}
 use Rattle.machine_rules.proofs.StartLaws.{started, started-length, device-object, start-sound}
 use Rattle.table.specs.Layout.{mainStartAt, mainCountAt, deviceCountAt, objectAddress, keptAddress, fieldAddress, slotAddress, stateEnd, workSize}
-use Rattle.table.specs.View.{cell, instrsIn, sheetIn}
+use Rattle.table.specs.View.{cell, instrsIn, sheetIn, deviceIn}
 use Rattle.table.specs.Only.{Only}
 use Rattle.table.specs.Whole.{Whole}
 use Rattle.table.proofs.ViewLaws.{only-refl, only-trans, only-set, sheetIn-same}
 use Rattle.table.proofs.SheetLaws.{main-is, devices-length, devices-few, only-whole}
 use Rattle.machine_state.specs.Held.{keptCount, fieldCount, objectIn, objectsIn, slotsIn, belowIn, stateIn}
-use Rattle.machine.specs.Runs.{startTop, deviceIn, devicePut, DevicesPut, Ready}
+use Rattle.machine.specs.Runs.{startTop, devicePut, DevicesPut, Ready}
 
 -- the sheet stays what it is while the state changes
 pub sheet-kept : (w w′ : List ℕ) → Only (objectAddress 0) stateEnd w w′ → sheetIn w′ ≡ sheetIn w

@@ -3,7 +3,7 @@
 use Prim.Native.Nat.{ℕ, suc, _+_, _-_, _≤_, _<_}
 use mathlib.Core.Path.{_≡_}
 use mathlib.Core.List.{List}
-use lib.ListN.{length, getD, set}
+use lib.ListN.{length, set}
 use Rattle.machine_rules.specs.declared.Outcome.{Outcome}
 use Rattle.machine_rules.specs.declared.Outcome.the-variants.{Done, Spent, StoreFull, StackFull}
 use Rattle.machine_rules.specs.declared.Tally.{Tally}
@@ -12,7 +12,7 @@ use Rattle.machine_rules.specs.Step.{storeFull, stackFull, nextStep}
 use Rattle.machine_rules.specs.declared.RunAnswer.{RunAnswer}
 use Rattle.machine_rules.specs.Steps.{ended, runFrom, run, answerOf}
 use Rattle.table.specs.Layout.{mainStartAt, mainCountAt, deviceCountAt, tableEnd, objectAddress, slotAddress, stateEnd}
-use Rattle.table.specs.View.{cell, sheetIn}
+use Rattle.table.specs.View.{cell, sheetIn, deviceIn}
 use Rattle.table.specs.Only.{Only}
 use Rattle.accepted.specs.Accepted.{AcceptedIn}
 use Rattle.machine_places.specs.Located.{Located}
@@ -59,10 +59,6 @@ startTop w = record { own = 0; filled = cell w deviceCountAt; next = cell w main
 pub record Able (w : List ℕ) : Type 0 where
   pub accepted : AcceptedIn w
   pub located : Located w
-
--- the form of device d
-abbrev pub deviceIn : List ℕ → ℕ → ℕ
-deviceIn w d = getD ((sheetIn w) .devices) d 0
 
 -- device d, put into the store and into main's slot of its number
 abbrev pub devicePut : List ℕ → ℕ → List ℕ

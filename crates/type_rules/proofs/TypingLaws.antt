@@ -6,7 +6,7 @@ use mathlib.Core.Bool.{Bool, true, false, not, _&&_}
 use mathlib.Core.List.{List, [], _∷_, _++_, map}
 use mathlib.Core.Option.{Option, none, some}
 use lib.Dec.{T, T-not, eqb, eqb→eq, ltb, ltb→lt}
-use lib.ListN.{length, getD, length-append, length-map}
+use lib.ListN.{length, getD, length-append, length-map, drop-of-length-le}
 use lib.Seq.{getD-at}
 use Rattle.lists.specs.In.{In, here, there}
 use Rattle.lists.specs.Pairwise.{Pairwise, pair}
@@ -218,17 +218,12 @@ module _ (s : Sheet) where
 
   -- DEVICES
 
-  -- a list of length 0 is empty
-  no-keeps : (ks : List ℕ) → length ks ≡ 0 → ks ≡ []
-  no-keeps [] e = refl
-  no-keeps (k ∷ ks) e = absurd (omega arith)
-
   device-typed : (f : ℕ) → deviceFault s f ≡ none → DeviceTyped s f
   device-typed f e =
       let t = unless-passed (bare && not pure) WrongDevice e in
       record {
         resource = T-not pure (and-right bare (not pure) t);
-        keepsNone = no-keeps ((formAt s f) .keeps) (eqb→eq (length ((formAt s f) .keeps)) 0 (and-left bare (not pure) t));
+        keepsNone = drop-of-length-le ((formAt s f) .keeps) {i = 0} (omega (arith, eqb→eq (length ((formAt s f) .keeps)) 0 (and-left bare (not pure) t)));
       }
     where
       bare : Bool

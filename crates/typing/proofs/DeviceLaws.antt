@@ -19,7 +19,7 @@ use Rattle.type_rules.specs.SlotRows.{mainRows}
 use Rattle.type_rules.specs.Typing.{unless, isPure, isDevice, deviceFault, LineJudge, devicesFaults}
 use Rattle.table.specs.Layout.{deviceCountAt, slotRowAddress, slotRowsEnd}
 use Rattle.table.specs.Told.{slotRowsIn}
-use Rattle.table.specs.View.{cell, sheetIn}
+use Rattle.table.specs.View.{cell, sheetIn, deviceIn}
 use Rattle.table.specs.Whole.{Whole}
 use Rattle.table.proofs.ViewLaws.{only-refl, only-trans, only-set}
 use Rattle.table.proofs.SheetLaws.{devices-length, devices-few}
@@ -36,12 +36,9 @@ unfolding devicesFaults
 devices-nine judge [] h = omega arith
 devices-nine judge (f ∷ fs) h = omega (arith, length-map fs (judge .ofDevice))
 
--- the form of device d, and its row
-abbrev formIn : List ℕ → ℕ → ℕ
-formIn w d = getD ((sheetIn w) .devices) d 0
-
+-- the row of device d
 abbrev rowIn : List ℕ → ℕ → ℕ
-rowIn w d = (formAt (sheetIn w) (formIn w d)) .row
+rowIn w d = (formAt (sheetIn w) (deviceIn w d)) .row
 
 -- the test of a device's form, by what it keeps and its kind
 module _ (s : Sheet) (f : ℕ) {k : ℕ} (k-is : k ≡ length ((formAt s f) .keeps)) where
@@ -92,7 +89,7 @@ module _ {first : ℕ} {w₀ w : List ℕ} {d line : ℕ} (g : Each first w₀ w
         past : length ((sheetIn w₀) .devices) ≤ d
         past = omega (arith, count-is, devices-length w₀)
 
-    module _ (l : d < count) {form : ℕ} (form-is : form ≡ formIn w d) {b : Bool} (told : b ≡ isDevice (sheetIn w) form) where
+    module _ (l : d < count) {form : ℕ} (form-is : form ≡ deviceIn w d) {b : Bool} (told : b ≡ isDevice (sheetIn w) form) where
       -- the line in hand, and those after it
       here : walk line (unless b WrongDevice ∷ map (deviceFault (sheetIn w₀)) (drop (suc d) ((sheetIn w₀) .devices))) ≡ walk first (deviceFaultsIn w₀)
       here =
@@ -151,10 +148,6 @@ unfolding devicesFaults
 some-lines line judge [] ne = absurd (ne refl)
 some-lines line judge (f ∷ fs) ne = walk-good line (map (judge .ofDevice) (f ∷ fs))
 
-no-devices : (fs : List ℕ) → length fs ≡ 0 → fs ≡ []
-no-devices [] e = refl
-no-devices (f ∷ fs) e = absurd (omega arith)
-
 module _ (w : List ℕ) (line : ℕ) {c : ℕ} (e : c ≡ cell w deviceCountAt) where
   pub devices-judged : (c ≡ 0 → ⊥) → {w′ : List ℕ} {r : Walked} → CodeJudged (deviceFaultsIn w) (mainRows (sheetIn w)) (line + 1) w w′ r
       → CodeJudged (devicesFaultsIn w) (mainRows (sheetIn w)) line w w′ r
@@ -167,7 +160,7 @@ module _ (w : List ℕ) (line : ℕ) {c : ℕ} (e : c ≡ cell w deviceCountAt) 
   pub devices-none : c ≡ 0 → CodeJudged (devicesFaultsIn w) (mainRows (sheetIn w)) line w w (Walked.On line)
   unfolding devicesFaults tab
   devices-none z =
-      let none : (sheetIn w) .devices ≡ [] = no-devices ((sheetIn w) .devices) (devices-length w ∙ sym e ∙ z) in
+      let none : (sheetIn w) .devices ≡ [] = drop-of-length-le ((sheetIn w) .devices) {i = 0} (omega (arith, devices-length w, e)) in
       record {
         lines = record { told = sym (walk-none line) ∙ ap (λ (fs : List ℕ). walk line (devicesFaults (judgeIn w) fs)) (sym none); only = only-refl (slotRowAddress 0) slotRowsEnd w };
         slots = λ n x. subst (λ (fs : List ℕ). slotRowsIn w (length (map (λ f. (formAt (sheetIn w) f) .row) fs)) ≡ map (λ f. (formAt (sheetIn w) f) .row) fs) (sym none) refl;
