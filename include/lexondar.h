@@ -213,9 +213,9 @@ struct lexondar_report_result lexondar_report(const uint8_t *text, size_t text_l
 /*
  * The lines of a form, as they stand in the text: length bytes of it, start
  * bytes after its first, from the form's `form` line to the byte 10 of the last
- * line before the next form, `devices` or `main`. Forms count from 0. The sheet only has
- * to be readable; a form that is not in it is refusal 7, line 0, after reading.
- * Refusals 1 to 7; start and length are 0 then.
+ * line before the next form, `devices` or `main`. Forms count from 0. The sheet
+ * only has to be readable; a form that is not in it is refusal 7, line 0, after
+ * reading. Refusals 1 to 7; start and length are 0 then.
  */
 struct lexondar_form_result {
     uint32_t refusal;

@@ -7,6 +7,7 @@ use crate::draft::Draft;
 use crate::ladder::shuffle;
 use crate::plan::{write_sheet, FormPlan, Plan};
 use crate::rng::Rng;
+use crate::rows::{method, row};
 use crate::style::{Style, DEVICE};
 use second::fit::FitTable;
 use second::sheet::{Kind, Member, Row, CODE_LIMIT, MEMBER_LIMIT, NAME_LIMIT};
@@ -79,15 +80,6 @@ fn make_rows(rng: &mut Rng) -> Vec<Row> {
         }
     }
     rows
-}
-
-fn row(resource: bool, members: Vec<Member>) -> Row {
-    Row { resource, members }
-}
-
-fn method(name: u16, argument: u16, result: u16) -> Member {
-    let kind = Kind::Method { argument, result };
-    Member { name, kind }
 }
 
 /// A method that takes something to call, or a field where there may be one.

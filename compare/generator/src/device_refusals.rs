@@ -1,6 +1,7 @@
 //! For which faults of devices sheets are refused.
 
 use crate::cases::cases;
+use crate::tally;
 use crate::walk::{passings, scenes};
 use second::fit::FitTable;
 use second::{Refusal, Sheet};
@@ -244,17 +245,12 @@ impl DeviceRefusals {
 
     /// The faults for which no sheet is refused.
     pub fn missing(&self) -> Vec<String> {
-        let counts = FAULTS.iter().zip(&self.counts);
-        let missing = counts.filter(|(_, count)| **count == 0);
-        missing
-            .map(|(name, _)| format!("refused for {name}"))
-            .collect()
+        let missing = tally::missing(&FAULTS, &self.counts);
+        missing.map(|name| format!("refused for {name}")).collect()
     }
 
     /// A line for each fault.
     pub fn lines(&self) -> String {
-        let counts = FAULTS.iter().zip(&self.counts);
-        let line = |(fault, count)| format!("refused for {fault}: {count}\n");
-        counts.map(line).collect()
+        tally::lines("refused for", &FAULTS, &self.counts)
     }
 }

@@ -1,5 +1,6 @@
 //! What accepted sheets with devices have, and the states of their runs.
 
+use crate::tally;
 use second::authority::{authority_of, is_resource};
 use second::machine::Machine;
 use second::sheet::{Instruction, CODE_LIMIT, DEVICE_LIMIT};
@@ -269,23 +270,18 @@ impl Devices {
     pub fn add(&mut self, sheet: &Sheet) {
         self.sheets += 1;
         self.equipped += u64::from(!sheet.devices.is_empty());
-        for (count, found) in self.counts.iter_mut().zip(things(sheet)) {
-            *count += u64::from(found);
-        }
+        tally::add(&mut self.counts, things(sheet));
     }
 
     /// The things that no sheet has.
     pub fn missing(&self) -> Vec<String> {
-        let counts = THINGS.iter().zip(&self.counts);
-        let missing = counts.filter(|(_, count)| **count == 0);
-        missing.map(|(name, _)| String::from(*name)).collect()
+        let missing = tally::missing(&THINGS, &self.counts);
+        missing.map(String::from).collect()
     }
 
     /// A line for each thing, for the sheets of this name.
     pub fn lines(&self, name: &str) -> String {
         let first = format!("{name} with devices: {}\n", self.equipped);
-        let counts = THINGS.iter().zip(&self.counts);
-        let line = |(thing, count)| format!("{name} with {thing}: {count}\n");
-        first + &counts.map(line).collect::<String>()
+        first + &tally::lines(&format!("{name} with"), &THINGS, &self.counts)
     }
 }

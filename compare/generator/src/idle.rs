@@ -5,6 +5,7 @@
 use crate::draft::Draft;
 use crate::plan::{write_sheet, FormPlan, Plan};
 use crate::rng::Rng;
+use crate::rows::{method, row};
 use crate::style::{Style, IDLE};
 use second::fit::FitTable;
 use second::sheet::{Kind, Member, Row, KEEP_LIMIT, MEMBER_LIMIT, NAME_LIMIT};
@@ -80,15 +81,6 @@ fn make_rows(rng: &mut Rng) -> Vec<Row> {
         }
     }
     rows
-}
-
-fn row(resource: bool, members: Vec<Member>) -> Row {
-    Row { resource, members }
-}
-
-fn method(name: u16, argument: u16, result: u16) -> Member {
-    let kind = Kind::Method { argument, result };
-    Member { name, kind }
 }
 
 /// A field, or a method that gives something to call.

@@ -34,6 +34,7 @@ mod stray;
 mod strict;
 mod style;
 mod summit;
+mod tally;
 mod tower;
 pub mod usable;
 pub mod walk;

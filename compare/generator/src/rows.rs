@@ -31,6 +31,15 @@ pub fn make_rows(rng: &mut Rng, style: &Style) -> (Vec<Row>, FitTable) {
     (rows, fit)
 }
 
+pub fn row(resource: bool, members: Vec<Member>) -> Row {
+    Row { resource, members }
+}
+
+pub fn method(name: u16, argument: u16, result: u16) -> Member {
+    let kind = Kind::Method { argument, result };
+    Member { name, kind }
+}
+
 fn empty_row(resource: bool) -> Row {
     Row {
         resource,

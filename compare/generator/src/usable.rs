@@ -1,6 +1,7 @@
 //! What the states of a run have for the authority question: slots and kept
 //! values that count or do not, and holders that have less for it.
 
+use crate::tally;
 use second::authority::{authority_of, held_before, holders, is_resource};
 use second::authority::{kept_counts, slot_counts};
 use second::machine::{Machine, FIRST_KEPT};
@@ -154,22 +155,17 @@ impl Usable {
     /// Looks at the run of an accepted sheet.
     pub fn add(&mut self, sheet: &Sheet) {
         self.sheets += 1;
-        for (count, found) in self.counts.iter_mut().zip(things(sheet)) {
-            *count += u64::from(found);
-        }
+        tally::add(&mut self.counts, things(sheet));
     }
 
     /// The things that no sheet has.
     pub fn missing(&self) -> Vec<String> {
-        let counts = THINGS.iter().zip(&self.counts);
-        let missing = counts.filter(|(_, count)| **count == 0);
-        missing.map(|(name, _)| String::from(*name)).collect()
+        let missing = tally::missing(&THINGS, &self.counts);
+        missing.map(String::from).collect()
     }
 
     /// A line for each thing, for the sheets of this name.
     pub fn lines(&self, name: &str) -> String {
-        let counts = THINGS.iter().zip(&self.counts);
-        let line = |(thing, count)| format!("{name} with {thing}: {count}\n");
-        counts.map(line).collect()
+        tally::lines(&format!("{name} with"), &THINGS, &self.counts)
     }
 }

@@ -8,17 +8,16 @@ use mathlib.Core.Logic.{_⊎_, inl, inr, _↔_}
 use lib.Dec.{T, eqb, eqb→eq, ltb, lt→ltb}
 use lib.ListN.{length, getD}
 use Rattle.lists.specs.In.{In, here, there}
-use Rattle.lists.specs.Tab.{tab}
 use Rattle.lists.specs.AtPlaces.{atPlaces}
 use Rattle.lists.proofs.InLaws.{in-nil}
-use Rattle.lists.proofs.TabLaws.{length-tab, getD-tab}
+use Rattle.lists.proofs.TabLaws.{getD-tab}
 use Rattle.lists.proofs.AtPlacesLaws.{AtPlace, places-at, at-place}
 use Rattle.lists.proofs.Tests.{and-intro, or-left, or-cases}
-use Rattle.sheet_rules.specs.Sheet.{Sheet, codeNames, rowOfForm}
+use Rattle.sheet_rules.specs.Sheet.{Sheet, codeNames, rowOfForm, deviceAt}
 use Rattle.sheet_rules.specs.WellFormed.{WellFormed}
 use Rattle.type_rules.specs.Typed.{Typed}
 use Rattle.machine_rules.specs.State.{Object, start, objectAt}
-use Rattle.machine_rules.proofs.StartLaws.{started, deviceForm, started-length, device-resource, device-object}
+use Rattle.machine_rules.proofs.StartLaws.{started, startedSlots, started-length, slots-length, device-resource, device-object}
 use Rattle.authority_rules.specs.Counted.{isLast, usable}
 use Rattle.authority_rules.specs.Authority.{mainHolder, isResourceKind, isResource, holderOf, ownValues, holds}
 use Rattle.authority_rules.specs.Origin.{HeldAtStart, byItself, byMain}
@@ -31,14 +30,14 @@ module _ (s : Sheet) (w : WellFormed s) (t : Typed s) where
   counts v = codeNames (s .main) v || isLast (start s .top) v
 
   -- main's first slots are the devices' numbers
-  slot-is : (v : ℕ) → v < length (s .devices) → getD (tab (λ i. i) (length (s .devices))) v 0 ≡ v
+  slot-is : (v : ℕ) → v < length (s .devices) → getD (startedSlots s) v 0 ≡ v
   slot-is v h = getD-tab (λ i. i) (length (s .devices)) v 0 h
 
   -- main's last slot is not filled
   not-last : (v : ℕ) → v < length (s .devices) → T (isLast (start s .top) v) → ⊥
   not-last v h e =
-      let q : suc v ≡ length (tab (λ i. i) (length (s .devices))) + length (s .main) = eqb→eq (suc v) (length (tab (λ i. i) (length (s .devices))) + length (s .main)) e in
-      omega (arith, q, length-tab (λ i. i) (length (s .devices)), w .main .some)
+      let q : suc v ≡ length (startedSlots s) + length (s .main) = eqb→eq (suc v) (length (startedSlots s) + length (s .main)) e in
+      omega (arith, q, slots-length s, w .main .some)
 
   -- main's frame is main's
   main-top : holderOf s (started s) (start s .top ∷ []) ≡ mainHolder
@@ -47,9 +46,9 @@ module _ (s : Sheet) (w : WellFormed s) (t : Typed s) where
 
   module _ (h b : ℕ) where
     -- what main's slots hold
-    by-slots : mainHolder ≡ h → AtPlace counts (tab (λ i. i) (length (s .devices))) b → HeldAtStart s h b
+    by-slots : mainHolder ≡ h → AtPlace counts (startedSlots s) b → HeldAtStart s h b
     by-slots e p =
-        let l : p .place < length (s .devices) = omega (arith, p .inside, length-tab (λ i. i) (length (s .devices))) in
+        let l : p .place < length (s .devices) = omega (arith, p .inside, slots-length s) in
         let same : b ≡ p .place = p .is ∙ slot-is (p .place) l in
         subst (λ (x : ℕ). HeldAtStart s x b) e (subst (HeldAtStart s mainHolder) (sym same) (byMain l (named (p .place) l (or-cases (codeNames (s .main) (p .place)) (isLast (start s .top) (p .place)) (p .passes)))))
       where
@@ -70,7 +69,7 @@ module _ (s : Sheet) (w : WellFormed s) (t : Typed s) where
     held-start held = go ((holds-is usable s (start s) h b held) .reaches)
       where
         go : Reaches usable s (start s) h b → HeldAtStart s h b
-        go (by-top e i) = by-slots (sym main-top ∙ e) (places-at counts (tab (λ i. i) (length (s .devices))) i)
+        go (by-top e i) = by-slots (sym main-top ∙ e) (places-at counts (startedSlots s) i)
         go (by-slot q) = elim q [ ]
         go (by-own r i) =
             let l : h < length (s .devices) = omega (arith, resource-made s (started s) h r, started-length s) in
@@ -82,7 +81,7 @@ module _ (s : Sheet) (w : WellFormed s) (t : Typed s) where
   device-holds d l =
       and-intro (ltb d (length (started s))) (isResourceKind ((rowOfForm s ((objectAt (started s) d) .form)) .kind)) (lt→ltb d (length (started s)) (omega (arith, started-length s)))
       (subst (λ (o : Object). T (isResourceKind ((rowOfForm s (o .form)) .kind))) (sym (device-object s w t d l))
-      (not-pure ((rowOfForm s (deviceForm s d)) .kind) (device-resource s w t d l)))
+      (not-pure ((rowOfForm s (deviceAt s d)) .kind) (device-resource s w t d l)))
 
   start-held : (h b : ℕ) → HeldAtStart s h b → T (holds s (start s) h b)
   start-held h b (byItself l) = is-holds usable s (start s) h h (omega (arith, started-length s, w .fewDevices)) (record { resource = device-holds h l; reaches = by-own (device-holds h l) (here refl) })
@@ -90,8 +89,8 @@ module _ (s : Sheet) (w : WellFormed s) (t : Typed s) where
       is-holds usable s (start s) mainHolder b (omega (arith, started-length s, w .fewDevices))
       (record {
         resource = device-holds b l;
-        reaches = by-top main-top (at-place counts (tab (λ i. i) (length (s .devices)))
-            (record { place = b; inside = omega (arith, length-tab (λ i. i) (length (s .devices))); passes = or-left (codeNames (s .main) b) (isLast (start s .top) b) c; is = sym (slot-is b l) }));
+        reaches = by-top main-top (at-place counts (startedSlots s)
+            (record { place = b; inside = omega (arith, slots-length s); passes = or-left (codeNames (s .main) b) (isLast (start s .top) b) c; is = sym (slot-is b l) }));
       })
 
   pub start-exactly : (h b : ℕ) → T (holds s (start s) h b) ↔ HeldAtStart s h b

@@ -22,9 +22,8 @@ pub data HeldAtStart (s : Sheet) : (h b : ℕ) → Type 0 where
   byItself : {d : ℕ} → d < length (s .devices) → HeldAtStart s d d
   byMain : {d : ℕ} → d < length (s .devices) → T (codeNames (s .main) d) → HeldAtStart s mainHolder d
 
--- h gained b at one of the first n steps: it did not hold b before that step, held it after, and the step gave it by the paper's
--- creation, call or return (order 7)
-pub record GainedWithin (s : Sheet) (n h b : ℕ) : Type 0 where
+-- one of the first n steps: its number, from 0, the state before it, what it does, and the state that it leaves (order 7)
+pub record StepWithin (s : Sheet) (n : ℕ) : Type 0 where
   pub number : ℕ
   pub within : number < n
   pub before : State
@@ -32,9 +31,14 @@ pub record GainedWithin (s : Sheet) (n h b : ℕ) : Type 0 where
   pub action : Action
   pub leaves : State
   pub taken : nextStep s before ≡ step action leaves
-  pub unheld : T (holds s before h b) → ⊥
-  pub held : T (holds s leaves h b)
-  pub gain : Gain s before h b action
+
+-- h gained b at one of the first n steps: it did not hold b before that step, held it after, and the step gave it by the paper's
+-- creation, call or return (order 7)
+pub record GainedWithin (s : Sheet) (n h b : ℕ) : Type 0 where
+  pub at : StepWithin s n
+  pub unheld : T (holds s (at .before) h b) → ⊥
+  pub held : T (holds s (at .leaves) h b)
+  pub gain : Gain s (at .before) h b (at .action)
 
 -- whatever is held after n steps was held at the start or gained at one of the n steps (order 7)
 abbrev pub Originates : Type 0

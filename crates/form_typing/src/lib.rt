@@ -132,7 +132,7 @@ fn judge_parts(work: &mut [u16], f: usize, first: u32) -> Walked
 }
 
 // Row a of the sheet is pure.
-fn is_pure(work: &[u16], a: usize) -> bool
+pub fn is_pure(work: &[u16], a: usize) -> bool
     requires { ⌜ Whole (now work) ⌝ }
     ensures { λ r. ⌜ r ≡ isPure ((rowAt ((sheetIn (now (work .entry))) .rows) a) .kind) ⌝ }
 {

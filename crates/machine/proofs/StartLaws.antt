@@ -5,17 +5,17 @@ use native.Mathlib.Decide.{ℕ-discrete}
 use mathlib.Core.Path.{_≡_, sym, ap, _∙_, subst}
 use mathlib.Core.List.{List, []}
 use mathlib.Core.Option.{none}
-use lib.ListN.{length, getD, set, length-set}
+use lib.ListN.{length, set, length-set}
 use lib.Seq.{getD-set-same, getD-set-other}
 use Rattle.lists.specs.Tab.{tab}
 use Rattle.lists.proofs.PairwiseLaws.{pairwise-length}
 use Rattle.lists.proofs.TabLaws.{tab-is, tab-ext}
-use Rattle.sheet_rules.specs.Sheet.{Sheet}
+use Rattle.sheet_rules.specs.Sheet.{Sheet, deviceAt}
 use Rattle.machine_rules.specs.State.{Object, noObject, start}
 use Rattle.machine_rules.specs.Steps.{startTally}
 use Rattle.machine_rules.proofs.StartLaws.{started, started-length, device-object, start-sound}
 use Rattle.table.specs.Layout.{mainStartAt, mainCountAt, deviceCountAt, objectAddress, keptAddress, fieldAddress, slotAddress, stateEnd, workSize}
-use Rattle.table.specs.View.{cell, instrsIn, sheetIn, deviceIn}
+use Rattle.table.specs.View.{cell, instrsIn, sheetIn}
 use Rattle.table.specs.Only.{Only}
 use Rattle.table.specs.Whole.{Whole}
 use Rattle.table.proofs.ViewLaws.{only-refl, only-trans, only-set, sheetIn-same}
@@ -32,27 +32,27 @@ sheet-kept w w′ o = sheetIn-same w w′ (λ i h. o .below i (omega arith))
 module _ (w : List ℕ) (d : ℕ) (small : d < 8) where
   put-only : Only (objectAddress 0) stateEnd w (devicePut w d)
   put-only =
-      only-trans (only-set (objectAddress 0) stateEnd w (objectAddress d) (deviceIn w d) (omega arith) (omega arith))
-      (only-set (objectAddress 0) stateEnd (set w (objectAddress d) (deviceIn w d)) (slotAddress 0 d) d (omega arith) (omega arith))
+      only-trans (only-set (objectAddress 0) stateEnd w (objectAddress d) (deviceAt (sheetIn w) d) (omega arith) (omega arith))
+      (only-set (objectAddress 0) stateEnd (set w (objectAddress d) (deviceAt (sheetIn w) d)) (slotAddress 0 d) d (omega arith) (omega arith))
 
-  put-form : workSize ≤ length w → cell (devicePut w d) (objectAddress d) ≡ deviceIn w d
+  put-form : workSize ≤ length w → cell (devicePut w d) (objectAddress d) ≡ deviceAt (sheetIn w) d
   put-form size =
-      getD-set-other (set w (objectAddress d) (deviceIn w d)) (slotAddress 0 d) (objectAddress d) d 0 (λ e. omega arith)
-      ∙ getD-set-same w (objectAddress d) (deviceIn w d) 0 (omega arith)
+      getD-set-other (set w (objectAddress d) (deviceAt (sheetIn w) d)) (slotAddress 0 d) (objectAddress d) d 0 (λ e. omega arith)
+      ∙ getD-set-same w (objectAddress d) (deviceAt (sheetIn w) d) 0 (omega arith)
 
   put-slot : workSize ≤ length w → cell (devicePut w d) (slotAddress 0 d) ≡ d
-  put-slot size = getD-set-same (set w (objectAddress d) (deviceIn w d)) (slotAddress 0 d) d 0 (omega (arith, length-set w (objectAddress d) (deviceIn w d)))
+  put-slot size = getD-set-same (set w (objectAddress d) (deviceAt (sheetIn w) d)) (slotAddress 0 d) d 0 (omega (arith, length-set w (objectAddress d) (deviceAt (sheetIn w) d)))
 
   -- the others stay where they are
   form-kept : (i : ℕ) → i < d → cell (devicePut w d) (objectAddress i) ≡ cell w (objectAddress i)
   form-kept i h =
-      getD-set-other (set w (objectAddress d) (deviceIn w d)) (slotAddress 0 d) (objectAddress i) d 0 (λ e. omega arith)
-      ∙ getD-set-other w (objectAddress d) (objectAddress i) (deviceIn w d) 0 (λ e. omega arith)
+      getD-set-other (set w (objectAddress d) (deviceAt (sheetIn w) d)) (slotAddress 0 d) (objectAddress i) d 0 (λ e. omega arith)
+      ∙ getD-set-other w (objectAddress d) (objectAddress i) (deviceAt (sheetIn w) d) 0 (λ e. omega arith)
 
   slot-kept : (i : ℕ) → i < d → cell (devicePut w d) (slotAddress 0 i) ≡ cell w (slotAddress 0 i)
   slot-kept i h =
-      getD-set-other (set w (objectAddress d) (deviceIn w d)) (slotAddress 0 d) (slotAddress 0 i) d 0 (λ e. omega arith)
-      ∙ getD-set-other w (objectAddress d) (slotAddress 0 i) (deviceIn w d) 0 (λ e. omega arith)
+      getD-set-other (set w (objectAddress d) (deviceAt (sheetIn w) d)) (slotAddress 0 d) (slotAddress 0 i) d 0 (λ e. omega arith)
+      ∙ getD-set-other w (objectAddress d) (slotAddress 0 i) (deviceAt (sheetIn w) d) 0 (λ e. omega arith)
 
 -- ALL DEVICES
 
@@ -60,7 +60,7 @@ module _ (w : List ℕ) (d : ℕ) (small : d < 8) where
 pub record Putting (w₀ w : List ℕ) (d : ℕ) : Type 0 where
   pub within : d ≤ length ((sheetIn w₀) .devices)
   pub only : Only (objectAddress 0) stateEnd w₀ w
-  pub forms : (i : ℕ) → i < d → cell w (objectAddress i) ≡ deviceIn w₀ i
+  pub forms : (i : ℕ) → i < d → cell w (objectAddress i) ≡ deviceAt (sheetIn w₀) i
   pub slots : (i : ℕ) → i < d → cell w (slotAddress 0 i) ≡ i
 
 pub put-start : (w : List ℕ) → Putting w w 0
@@ -85,10 +85,10 @@ module _ {w₀ w : List ℕ} {d : ℕ} (g : Putting w₀ w d) (whole : Whole w�
         small = omega (arith, put-there h, devices-few w put-whole)
 
         -- device d, or one before it
-        pick : (i : ℕ) → i < d + 1 → Dec (i ≡ d) → (cell (devicePut w d) (objectAddress i) ≡ deviceIn w₀ i) × (cell (devicePut w d) (slotAddress 0 i) ≡ i)
+        pick : (i : ℕ) → i < d + 1 → Dec (i ≡ d) → (cell (devicePut w d) (objectAddress i) ≡ deviceAt (sheetIn w₀) i) × (cell (devicePut w d) (slotAddress 0 i) ≡ i)
         pick i l (yes q) =
-            subst (λ (k : ℕ). (cell (devicePut w d) (objectAddress k) ≡ deviceIn w₀ k) × (cell (devicePut w d) (slotAddress 0 k) ≡ k)) (sym q)
-            (put-form w d small (put-whole .size) ∙ ap (λ (s : Sheet). getD (s .devices) d 0) (sheet-kept w₀ w (g .only)), put-slot w d small (put-whole .size))
+            subst (λ (k : ℕ). (cell (devicePut w d) (objectAddress k) ≡ deviceAt (sheetIn w₀) k) × (cell (devicePut w d) (slotAddress 0 k) ≡ k)) (sym q)
+            (put-form w d small (put-whole .size) ∙ ap (λ (s : Sheet). deviceAt s d) (sheet-kept w₀ w (g .only)), put-slot w d small (put-whole .size))
         pick i l (no q) = (form-kept w d small i (omega (arith, q)) ∙ g .forms i (omega (arith, q)), slot-kept w d small i (omega (arith, q)) ∙ g .slots i (omega (arith, q)))
 
         next : Putting w₀ (devicePut w d) (d + 1)
@@ -105,7 +105,7 @@ module _ {w₀ w : List ℕ} {d : ℕ} (g : Putting w₀ w d) (whole : Whole w�
         record {
           equipped =
               record {
-                forms = λ i l. g .forms i (omega (arith, same-devices, count-is, devices-length w₀)) ∙ sym (ap (λ (s : Sheet). getD (s .devices) i 0) (sheet-kept w₀ w (g .only)));
+                forms = λ i l. g .forms i (omega (arith, same-devices, count-is, devices-length w₀)) ∙ sym (ap (λ (s : Sheet). deviceAt s i) (sheet-kept w₀ w (g .only)));
                 slots = λ i l. g .slots i (omega (arith, same-devices, count-is, devices-length w₀));
               };
           only = g .only;
@@ -118,7 +118,7 @@ module _ (w : List ℕ) (r : Ready w) where
   devices = length ((sheetIn w) .devices)
 
   -- a device has no kept value and no field
-  no-kept : (d : ℕ) → d < devices → (keptCount (sheetIn w) (deviceIn w d) ≡ 0) × (fieldCount (sheetIn w) (deviceIn w d) ≡ 0)
+  no-kept : (d : ℕ) → d < devices → (keptCount (sheetIn w) (deviceAt (sheetIn w) d) ≡ 0) × (fieldCount (sheetIn w) (deviceAt (sheetIn w) d) ≡ 0)
   no-kept d h =
       let o = start-sound (sheetIn w) (r .able .accepted .whole .sheet) (r .able .accepted .typed) .store d (omega (arith, started-length (sheetIn w))) in
       let e = device-object (sheetIn w) (r .able .accepted .whole .sheet) (r .able .accepted .typed) d h in
@@ -126,11 +126,11 @@ module _ (w : List ℕ) (r : Ready w) where
       (pairwise-length (o .kept), pairwise-length (o .fields)) in
       (sym (p .0), sym (p .1))
 
-  object-is : (d : ℕ) → d < devices → objectIn (sheetIn w) w d ≡ record { form = deviceIn w d; kept = []; fields = [] }
+  object-is : (d : ℕ) → d < devices → objectIn (sheetIn w) w d ≡ record { form = deviceAt (sheetIn w) d; kept = []; fields = [] }
   unfolding objectIn tab
   object-is d h =
       ap (λ (f : ℕ). record { form = f; kept = tab (λ i. cell w (keptAddress d i)) (keptCount (sheetIn w) f); fields = tab (λ i. cell w (fieldAddress d i)) (fieldCount (sheetIn w) f) }) (r .equipped .forms d h)
-      ∙ (λ j. record { form = deviceIn w d; kept = tab (λ i. cell w (keptAddress d i)) (no-kept d h .0 j); fields = tab (λ i. cell w (fieldAddress d i)) (no-kept d h .1 j) })
+      ∙ (λ j. record { form = deviceAt (sheetIn w) d; kept = tab (λ i. cell w (keptAddress d i)) (no-kept d h .0 j); fields = tab (λ i. cell w (fieldAddress d i)) (no-kept d h .1 j) })
 
   objects-are : objectsIn (sheetIn w) w devices ≡ started (sheetIn w)
   objects-are =

@@ -4,6 +4,7 @@ use Prim.Native.Nat.{ℕ, suc, _+_, _-_, _≤_, _<_}
 use mathlib.Core.Path.{_≡_}
 use mathlib.Core.List.{List}
 use lib.ListN.{length, set}
+use Rattle.sheet_rules.specs.Sheet.{deviceAt}
 use Rattle.machine_rules.specs.declared.Outcome.{Outcome}
 use Rattle.machine_rules.specs.declared.Outcome.the-variants.{Done, Spent, StoreFull, StackFull}
 use Rattle.machine_rules.specs.declared.Tally.{Tally}
@@ -12,7 +13,7 @@ use Rattle.machine_rules.specs.Step.{storeFull, stackFull, nextStep}
 use Rattle.machine_rules.specs.declared.RunAnswer.{RunAnswer}
 use Rattle.machine_rules.specs.Steps.{ended, runFrom, run, answerOf}
 use Rattle.table.specs.Layout.{mainStartAt, mainCountAt, deviceCountAt, tableEnd, objectAddress, slotAddress, stateEnd}
-use Rattle.table.specs.View.{cell, sheetIn, deviceIn}
+use Rattle.table.specs.View.{cell, sheetIn}
 use Rattle.table.specs.Only.{Only}
 use Rattle.accepted.specs.Accepted.{AcceptedIn}
 use Rattle.machine_places.specs.Located.{Located}
@@ -62,11 +63,11 @@ pub record Able (w : List ℕ) : Type 0 where
 
 -- device d, put into the store and into main's slot of its number
 abbrev pub devicePut : List ℕ → ℕ → List ℕ
-devicePut w d = set (set w (objectAddress d) (deviceIn w d)) (slotAddress 0 d) d
+devicePut w d = set (set w (objectAddress d) (deviceAt (sheetIn w) d)) (slotAddress 0 d) d
 
 -- every device is in the store under its number, and in main's slot of its number
 pub record Equipped (w : List ℕ) : Type 0 where
-  pub forms : (d : ℕ) → d < length ((sheetIn w) .devices) → cell w (objectAddress d) ≡ deviceIn w d
+  pub forms : (d : ℕ) → d < length ((sheetIn w) .devices) → cell w (objectAddress d) ≡ deviceAt (sheetIn w) d
   pub slots : (d : ℕ) → d < length ((sheetIn w) .devices) → cell w (slotAddress 0 d) ≡ d
 
 -- all devices put there; nothing but the state is changed

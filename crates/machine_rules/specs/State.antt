@@ -18,7 +18,8 @@ pub record Frame : Type 0 where
   pub slots : List ℕ
   pub code : List Instr
 
--- a state: the objects, numbered from 0 in order of creation and never removed; the top frame; and those below it (The machine)
+-- a state: the objects, numbered from 0, devices first and then in order of creation, and never removed; the top frame; and those
+-- below it (The machine; document 02, order 7)
 pub record State : Type 0 where
   pub objects : List Object
   pub top : Frame

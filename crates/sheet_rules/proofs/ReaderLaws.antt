@@ -121,7 +121,7 @@ there-keep bound count k before c b h = record { there = each; counted = rw leng
         go (inl j) = c .there a j
         go (inr e) = omega arith
 
--- `count` lines of such a number give so many of them
+-- `count` lines of such a number give `count` of them
 pub gives-there : (wanted : Place) (bound count : ℕ) (ls : List Line) (n : ℕ) → Gives (ThereSoFar bound count 0) (many count (λ before. one (existingLine wanted bound)) [] ls n)
 gives-there wanted bound count ls n =
     gives-many (ThereSoFar bound count) (λ before. one (existingLine wanted bound))

@@ -119,6 +119,10 @@ formAt s f = getD (s .forms) f noForm
 abbrev pub rowOfForm : Sheet → ℕ → Row
 rowOfForm s f = rowAt (s .rows) ((formAt s f) .row)
 
+-- the form's number of the device of a number (document 02, order 7)
+abbrev pub deviceAt : Sheet → ℕ → ℕ
+deviceAt s d = getD (s .devices) d 0
+
 -- how many instructions stand in a part, in a list of parts, in a list of forms (The sheet)
 abbrev pub sizeOfPart : Part → ℕ
 sizeOfPart (init k) = 0

@@ -10,10 +10,10 @@ use Rattle.lists.proofs.InLaws.{in-getD}
 use Rattle.lists.proofs.PairwiseLaws.{pairwise-length}
 use Rattle.lists.proofs.TabLaws.{length-tab, getD-tab}
 use Rattle.sheet_rules.specs.Limits.{keepLimit}
-use Rattle.sheet_rules.specs.Sheet.{Row, Part, init, Form, noRow, noMember, noForm, rowAt, formAt}
+use Rattle.sheet_rules.specs.Sheet.{Row, Part, init, Form, noRow, noMember, noForm, rowAt, formAt, deviceAt}
 use Rattle.sheet_rules.specs.WellFormed.{WellFormedRow, PartOf, WellFormedForm, WellFormed}
 use Rattle.table.specs.Layout.{rowCountAt, formCountAt, mainStartAt, mainCountAt, deviceCountAt, deviceAddress, rowAddress, formAddress, keepAddress, tableEnd}
-use Rattle.table.specs.View.{cell, memberIn, rowIn, rowsIn, instrIn, instrsIn, partIn, partsIn, keepsIn, formIn, sheetIn, deviceIn}
+use Rattle.table.specs.View.{cell, memberIn, rowIn, rowsIn, instrIn, instrsIn, partIn, partsIn, keepsIn, formIn, sheetIn}
 use Rattle.table.specs.Only.{Only}
 use Rattle.table.specs.Ready.{Ready}
 use Rattle.table.specs.Whole.{Whole}
@@ -131,7 +131,7 @@ module _ (w : List ℕ) where
   unfolding sheetIn
   devices-length = length-tab (λ i. cell w (deviceAddress i)) (cell w deviceCountAt)
 
-  pub device-there : (i : ℕ) → i < length ((sheetIn w) .devices) → deviceIn w i ≡ cell w (deviceAddress i)
+  pub device-there : (i : ℕ) → i < length ((sheetIn w) .devices) → deviceAt (sheetIn w) i ≡ cell w (deviceAddress i)
   unfolding sheetIn
   device-there i h = getD-tab (λ k. cell w (deviceAddress k)) (cell w deviceCountAt) i 0 (omega (arith, devices-length))
 

@@ -115,7 +115,3 @@ sheetIn w =
       devices = devicesIn w (cell w deviceCountAt);
       main = instrsIn w (cell w mainStartAt) (cell w mainCountAt);
     }
-
--- the form of device d
-abbrev pub deviceIn : List ℕ → ℕ → ℕ
-deviceIn w d = getD ((sheetIn w) .devices) d 0

@@ -2,8 +2,9 @@
 ghost use mathlib.Core.Path.{_≡_};
 ghost use Prim.Native.Nat.{_<_, _≤_};
 ghost use lib.ListN.{length, set};
+ghost use Rattle.sheet_rules.specs.Sheet.{deviceAt};
 ghost use Rattle.table.specs.Layout.{deviceCountAt, deviceAddress, workSize};
-ghost use Rattle.table.specs.View.{cell as cellOf, sheetIn, deviceIn};
+ghost use Rattle.table.specs.View.{cell as cellOf, sheetIn};
 ghost use Rattle.table.specs.Whole.{Whole};
 
 // How many devices the sheet has.
@@ -17,7 +18,7 @@ pub fn device_count(work: &[u16]) -> u16
 // The form of device i.
 pub fn device_form(work: &[u16], i: usize) -> u16
     requires { ⌜ Whole (now work) × (i < length ((sheetIn (now work)) .devices)) ⌝ }
-    ensures { λ r. ⌜ r ≡ deviceIn (now (work .entry)) i ⌝ }
+    ensures { λ r. ⌜ r ≡ deviceAt (sheetIn (now (work .entry))) i ⌝ }
 {
     work[5 + i]
 }

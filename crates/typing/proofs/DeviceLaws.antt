@@ -6,20 +6,19 @@ use native.Mathlib.Numerals.{add-one}
 use mathlib.Core.Path.{_≡_, refl, sym, ap, _∙_, subst}
 use mathlib.Core.Bool.{Bool, true, false, not, _&&_}
 use mathlib.Core.List.{List, [], _∷_, map}
-use lib.ListN.{length, getD, drop, set, drop-of-length-le, length-map}
+use lib.ListN.{length, drop, set, drop-of-length-le, length-map}
 use lib.Seq.{drop-cons, getD-set-same, getD-set-other}
 use borrow.Author.Tests.{eq-eqb, ne-eqb, not-true, not-false}
 use Rattle.lists.specs.Tab.{tab}
 use Rattle.lists.proofs.TabLaws.{tab-ext, map-tab}
 use Rattle.lists.proofs.Tests.{clash}
-use Rattle.sheet_rules.specs.declared.Kind.{Kind}
 use Rattle.sheet_rules.specs.declared.Reason.the-variants.{WrongDevice}
-use Rattle.sheet_rules.specs.Sheet.{Sheet, rowAt, formAt, rowOfForm}
+use Rattle.sheet_rules.specs.Sheet.{Sheet, rowAt, formAt, rowOfForm, deviceAt}
 use Rattle.type_rules.specs.SlotRows.{mainRows}
 use Rattle.type_rules.specs.Typing.{unless, isPure, isDevice, deviceFault, LineJudge, devicesFaults}
 use Rattle.table.specs.Layout.{deviceCountAt, slotRowAddress, slotRowsEnd}
 use Rattle.table.specs.Told.{slotRowsIn}
-use Rattle.table.specs.View.{cell, sheetIn, deviceIn}
+use Rattle.table.specs.View.{cell, sheetIn}
 use Rattle.table.specs.Whole.{Whole}
 use Rattle.table.proofs.ViewLaws.{only-refl, only-trans, only-set}
 use Rattle.table.proofs.SheetLaws.{devices-length, devices-few}
@@ -38,16 +37,16 @@ devices-nine judge (f ∷ fs) h = omega (arith, length-map fs (judge .ofDevice))
 
 -- the row of device d
 abbrev rowIn : List ℕ → ℕ → ℕ
-rowIn w d = (formAt (sheetIn w) (deviceIn w d)) .row
+rowIn w d = (formAt (sheetIn w) (deviceAt (sheetIn w) d)) .row
 
--- the test of a device's form, by what it keeps and its kind
+-- the test of a device's form, by how much it keeps and whether its row is pure
 module _ (s : Sheet) (f : ℕ) {k : ℕ} (k-is : k ≡ length ((formAt s f) .keeps)) where
   pub not-bare : (k ≡ 0 → ⊥) → false ≡ isDevice s f
   not-bare ne = sym (ap (λ (b : Bool). b && not (isPure ((rowOfForm s f) .kind))) (ne-eqb (length ((formAt s f) .keeps)) 0 (λ e. ne (k-is ∙ e))))
 
-  pub by-kind : k ≡ 0 → {a : ℕ} → a ≡ (formAt s f) .row → {kind kind′ : Kind} → kind ≡ (rowAt (s .rows) a) .kind → kind ≡ kind′ → not (isPure kind′) ≡ isDevice s f
-  by-kind e row-is told is =
-      ap (λ (x : Kind). not (isPure x)) (sym is ∙ told ∙ ap (λ (a : ℕ). (rowAt (s .rows) a) .kind) row-is)
+  pub bare : k ≡ 0 → {a : ℕ} → a ≡ (formAt s f) .row → {pure : Bool} → pure ≡ isPure ((rowAt (s .rows) a) .kind) → not pure ≡ isDevice s f
+  bare e row-is told =
+      ap not (told ∙ ap (λ (a : ℕ). isPure ((rowAt (s .rows) a) .kind)) row-is)
       ∙ sym (ap (λ (b : Bool). b && not (isPure ((rowOfForm s f) .kind))) (eq-eqb (length ((formAt s f) .keeps)) 0 (sym k-is ∙ e)))
 
 -- where the loop stands: the lines before number d passed, and their slots have their rows
@@ -89,12 +88,12 @@ module _ {first : ℕ} {w₀ w : List ℕ} {d line : ℕ} (g : Each first w₀ w
         past : length ((sheetIn w₀) .devices) ≤ d
         past = omega (arith, count-is, devices-length w₀)
 
-    module _ (l : d < count) {form : ℕ} (form-is : form ≡ deviceIn w d) {b : Bool} (told : b ≡ isDevice (sheetIn w) form) where
+    module _ (l : d < count) {form : ℕ} (form-is : form ≡ deviceAt (sheetIn w) d) {b : Bool} (told : b ≡ isDevice (sheetIn w) form) where
       -- the line in hand, and those after it
       here : walk line (unless b WrongDevice ∷ map (deviceFault (sheetIn w₀)) (drop (suc d) ((sheetIn w₀) .devices))) ≡ walk first (deviceFaultsIn w₀)
       here =
           ap (λ (x : Bool). walk line (unless x WrongDevice ∷ map (deviceFault (sheetIn w₀)) (drop (suc d) ((sheetIn w₀) .devices))))
-          (told ∙ ap (isDevice (sheetIn w)) form-is ∙ (λ i. isDevice (same-sheet i) (getD (same-sheet i .devices) d 0)))
+          (told ∙ ap (isDevice (sheetIn w)) form-is ∙ (λ i. isDevice (same-sheet i) (deviceAt (same-sheet i) d)))
           ∙ sym (ap (λ (fs : List ℕ). walk line (map (deviceFault (sheetIn w₀)) fs)) (drop-cons ((sheetIn w₀) .devices) d 0 (omega (arith, count-is, devices-length w₀))))
           ∙ g .same
 
@@ -129,7 +128,7 @@ module _ {first : ℕ} {w₀ w : List ℕ} {d line : ℕ} (g : Each first w₀ w
           }
         where
           row-there : row ≡ rowIn w₀ d
-          row-there = row-is ∙ ap (λ (f : ℕ). (formAt (sheetIn w) f) .row) form-is ∙ (λ i. (formAt (same-sheet i) (getD (same-sheet i .devices) d 0)) .row)
+          row-there = row-is ∙ ap (λ (f : ℕ). (formAt (sheetIn w) f) .row) form-is ∙ (λ i. (formAt (same-sheet i) (deviceAt (same-sheet i) d)) .row)
 
           -- device d, or one before it
           pick : (i : ℕ) → i < d + 1 → Dec (i ≡ d) → cell w′ (slotRowAddress i) ≡ rowIn w₀ i

@@ -9,7 +9,6 @@ ghost use Rattle.code_typing.specs.Walk.{lineLimit};
 ghost use Rattle.code_typing.specs.Told.{CodeJudged};
 ghost use Rattle.typing.specs.Told.{deviceFaultsIn, devicesFaultsIn};
 use code_typing::Walked;
-use sheet_rules::Kind;
 use sheet_rules::Reason;
 use table::rows::wide;
 
@@ -22,10 +21,7 @@ fn is_device(work: &[u16], f: usize) -> bool
         return false;
     }
     let row = table::forms::form_row(work, f);
-    match table::rows::kind_at(work, wide(row)) {
-        Kind::Pure => false,
-        Kind::Resource => true,
-    }
+    !form_typing::is_pure(work, wide(row))
 }
 
 // The `device` lines, from line `first` on.
