@@ -5,29 +5,94 @@
  * buffer, keeps neither, allocates nothing, and ends. All that is said here
  * of answers and buffers is proved, for every text, every number and every
  * buffer. Link with liblexondar.a (x86-64, System V ABI), which needs nothing
- * but memset.
+ * but memset. lexondar_words.h has words for the refusals.
  *
- * Every pointer is valid for its length, and aligned to its type; the text, the
- * list and the buffers do not overlap. A pointer of length 0 is not null. These are the
- * caller's duties, and the only ones. Two calls at a time need two work
- * buffers.
+ * The caller's duties, and the only ones:
+ *
+ *   Pointers  Every pointer is valid for its length, and aligned to its type;
+ *             the text, the list and the buffers do not overlap. A pointer of
+ *             length 0 is not null.
+ *
+ *   Alone     During a call nobody else touches the text, the list or a
+ *             buffer: no thread, no interrupt handler, no device. The library
+ *             keeps its own numbers in the work buffer and uses them as
+ *             indices without another test, because they are proved to be in
+ *             bounds. If somebody else writes there during a call, it may read
+ *             and write outside its buffers. Where that can't be excluded,
+ *             keep them in a region that the memory protection hardware
+ *             reserves for the caller during the call. Two calls at a time
+ *             need two work buffers and two result buffers.
+ *
+ *   Stack     LEXONDAR_STACK bytes are there below the caller's stack pointer.
+ *             An interrupt handler on the same stack leaves the red zone
+ *             alone, the 128 bytes below the stack pointer, which the ABI
+ *             lets a function use and this library does use.
+ *
+ *   Time      A run can't be cut short, and takes time in proportion to its
+ *             steps, so choose a budget that the terminal can wait for:
+ *             4,294,967,295 steps took 6 to 32 s, by their kind, on one core
+ *             of an Intel Xeon. All else that a call does is bounded by the
+ *             limits of a sheet, and took less than a millisecond.
+ *
+ * Later versions may have more refusals: take every number but 0 for one.
  */
 #ifndef LEXONDAR_H
 #define LEXONDAR_H
 
+#if !defined(__x86_64__) || defined(__ILP32__) || defined(_WIN32)
+#error "liblexondar.a is code for x86-64 with 64-bit pointers and the System V ABI"
+#endif
+
 #include <stddef.h>
 #include <stdint.h>
+
+/*
+ * The version of the header and the archive, here and nowhere else; the
+ * changelog has what each one changed. As one number, to compare: 200 is 0.2.0.
+ */
+#define LEXONDAR_VERSION "0.2.0"
+#define LEXONDAR_VERSION_NUMBER 200
+
+/* The compiler warns where a result is ignored. */
+#if defined(__cplusplus) && __cplusplus >= 201703L
+#define LEXONDAR_MUST_USE [[nodiscard]]
+#elif defined(__GNUC__)
+#define LEXONDAR_MUST_USE __attribute__((warn_unused_result))
+#else
+#define LEXONDAR_MUST_USE
+#endif
+
+/* A result has the size that the archive was compiled with. */
+#if defined(__cplusplus) && __cplusplus >= 201103L
+#define LEXONDAR_SIZE(type, bytes) static_assert(sizeof(struct type) == bytes, #type)
+#elif defined(__STDC_VERSION__) && __STDC_VERSION__ >= 201112L
+#define LEXONDAR_SIZE(type, bytes) _Static_assert(sizeof(struct type) == bytes, #type)
+#else
+#define LEXONDAR_SIZE(type, bytes) typedef char type##_size[sizeof(struct type) == bytes ? 1 : -1]
+#endif
 
 #ifdef __cplusplus
 extern "C" {
 #endif
 
-/* The 16-bit numbers that a work buffer must have. */
+/* The bytes that a text may have. */
+#define LEXONDAR_TEXT_MAX 65535
+
+/* The 16-bit numbers that a work buffer must have, and that is in bytes. */
 #define LEXONDAR_WORK 32768
+#define LEXONDAR_WORK_BYTES 65536
 
 /* Those that a result buffer must have, for one holder or a list, and for all. */
 #define LEXONDAR_AUTHORITY 256
+#define LEXONDAR_AUTHORITY_BYTES 512
 #define LEXONDAR_REPORT 66306
+#define LEXONDAR_REPORT_BYTES 132612
+
+/*
+ * The bytes of stack that a call takes at the most: its return address and the
+ * red zone are among them, memset's own are not.
+ */
+#define LEXONDAR_STACK 1536
 
 /* The holders that a list may have, repeats included. */
 #define LEXONDAR_GROUP 16
@@ -118,7 +183,9 @@ struct lexondar_fit_result {
     uint32_t fits;
     uint32_t passed;
 };
+LEXONDAR_SIZE(lexondar_fit_result, 24);
 
+LEXONDAR_MUST_USE
 struct lexondar_fit_result lexondar_fit(const uint8_t *text, size_t text_len, size_t a, size_t b,
                                         uint16_t *work, size_t work_len);
 
@@ -129,7 +196,9 @@ struct lexondar_verdict_result {
     uint32_t lack;
     uint32_t name;
 };
+LEXONDAR_SIZE(lexondar_verdict_result, 16);
 
+LEXONDAR_MUST_USE
 struct lexondar_verdict_result lexondar_verdict(const uint8_t *text, size_t text_len,
                                                 uint16_t *work, size_t work_len);
 
@@ -149,7 +218,9 @@ struct lexondar_run_result {
     uint32_t value;
     uint32_t objects;
 };
+LEXONDAR_SIZE(lexondar_run_result, 32);
 
+LEXONDAR_MUST_USE
 struct lexondar_run_result lexondar_run(const uint8_t *text, size_t text_len, uint32_t budget,
                                         uint16_t *work, size_t work_len);
 
@@ -169,7 +240,9 @@ struct lexondar_authority_result {
     uint32_t name;
     uint32_t count;
 };
+LEXONDAR_SIZE(lexondar_authority_result, 20);
 
+LEXONDAR_MUST_USE
 struct lexondar_authority_result lexondar_authority(const uint8_t *text, size_t text_len,
                                                     uint32_t budget, size_t holder,
                                                     uint16_t *work, size_t work_len,
@@ -182,6 +255,7 @@ struct lexondar_authority_result lexondar_authority(const uint8_t *text, size_t 
  * an empty list, count is 0. A list of over 16 numbers, or one with a number
  * that is no holder, is refusal 11, after the run. Refusals 1 to 11, and 14.
  */
+LEXONDAR_MUST_USE
 struct lexondar_authority_result lexondar_group(const uint8_t *text, size_t text_len,
                                                 uint32_t budget, const uint16_t *holders,
                                                 size_t holders_len, uint16_t *work,
@@ -205,7 +279,9 @@ struct lexondar_report_result {
     uint32_t objects;
     uint32_t count;
 };
+LEXONDAR_SIZE(lexondar_report_result, 36);
 
+LEXONDAR_MUST_USE
 struct lexondar_report_result lexondar_report(const uint8_t *text, size_t text_len,
                                               uint32_t budget, uint16_t *work, size_t work_len,
                                               uint16_t *result, size_t result_len);
@@ -225,7 +301,9 @@ struct lexondar_form_result {
     size_t start;
     size_t length;
 };
+LEXONDAR_SIZE(lexondar_form_result, 32);
 
+LEXONDAR_MUST_USE
 struct lexondar_form_result lexondar_form(const uint8_t *text, size_t text_len, size_t form,
                                           uint16_t *work, size_t work_len);
 
@@ -247,7 +325,9 @@ struct lexondar_bound_result {
     uint32_t name;
     uint32_t steps;
 };
+LEXONDAR_SIZE(lexondar_bound_result, 20);
 
+LEXONDAR_MUST_USE
 struct lexondar_bound_result lexondar_bound(const uint8_t *text, size_t text_len, uint16_t *work,
                                             size_t work_len);
 

@@ -1,13 +1,14 @@
 /*
  * Judges the sheet on standard input, runs it for at most 10,000 steps, and
- * prints what every holder holds, in the paper's words.
+ * prints what every holder holds, in the paper's words. A refusal is also said
+ * in words, on standard error.
  */
-#include "lexondar.h"
+#include "lexondar_words.h"
 
 #include <stdio.h>
 
 /* One byte more than a sheet may have, so that a longer one is seen. */
-static uint8_t text[65536];
+static uint8_t text[LEXONDAR_TEXT_MAX + 1];
 static uint16_t work[LEXONDAR_WORK];
 static uint16_t result[LEXONDAR_REPORT];
 
@@ -33,8 +34,11 @@ int main(void) {
     struct lexondar_report_result report =
         lexondar_report(text, length, 10000, work, LEXONDAR_WORK, result, LEXONDAR_REPORT);
     printf("verdict=%u\nline=%u\n", (unsigned)report.refusal, (unsigned)report.line);
-    if (report.refusal != LEXONDAR_ANSWERED)
+    if (report.refusal != LEXONDAR_ANSWERED) {
+        fprintf(stderr, "%s: %s\n", lexondar_word(report.refusal),
+                lexondar_sentence(report.refusal));
         return 0;
+    }
     printf("outcome=%u\nsteps=%u\nvalue=%u\n", (unsigned)report.outcome, (unsigned)report.steps,
            (unsigned)report.value);
     print_holders(result, report.count);

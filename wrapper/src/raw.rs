@@ -5,6 +5,9 @@ pub use crate::results::{
     VerdictResult,
 };
 
+/// The bytes that a text may have.
+pub const TEXT_MAX: usize = 65_535;
+
 /// The numbers of the work buffer that are used.
 pub const WORK: usize = 32_768;
 
@@ -17,6 +20,12 @@ pub const GROUP: usize = 16;
 /// The places of the result buffer that a report asks for: two and 256 for
 /// main and for each of 256 objects.
 pub const REPORT: usize = 66_306;
+
+/// The bytes of stack that a call takes at the most, but for `memset`'s own.
+pub const STACK: usize = 1536;
+
+/// The value of a run that is not done.
+pub const NO_VALUE: u32 = 65_535;
 
 extern "C" {
     fn lexondar_fit(

@@ -1,5 +1,7 @@
 //! The results of the questions, as the library lays them out.
 
+use crate::refusal::{Error, Lack, Reason, Refusal};
+
 /// The four numbers that every result begins with: a refusal's number or 0,
 /// its line or 0, what is lacking (0 nothing, 1 count, 2 kind, 3 a member), and
 /// the member's name or 0.
@@ -11,11 +13,17 @@ pub type Four = [u32; 4];
 #[repr(C)]
 #[derive(Clone, Copy, Debug, PartialEq, Eq)]
 pub struct FitResult {
+    /// 0, or the number of the refusal.
     pub refusal: u32,
+    /// The line at fault, or 0.
     pub line: u32,
+    /// What is lacking, or 0.
     pub lack: u32,
+    /// The name of the member that is lacking, or 0.
     pub name: u32,
+    /// 1 where row a fits row b.
     pub fits: u32,
+    /// The members of row a that the walk passed.
     pub passed: u32,
 }
 
@@ -23,9 +31,13 @@ pub struct FitResult {
 #[repr(C)]
 #[derive(Clone, Copy, Debug, PartialEq, Eq)]
 pub struct VerdictResult {
+    /// 0, or the number of the refusal.
     pub refusal: u32,
+    /// The line at fault, or 0.
     pub line: u32,
+    /// What is lacking, or 0.
     pub lack: u32,
+    /// The name of the member that is lacking, or 0.
     pub name: u32,
 }
 
@@ -35,13 +47,21 @@ pub struct VerdictResult {
 #[repr(C)]
 #[derive(Clone, Copy, Debug, PartialEq, Eq)]
 pub struct RunResult {
+    /// 0, or the number of the refusal.
     pub refusal: u32,
+    /// The line at fault, or 0.
     pub line: u32,
+    /// What is lacking, or 0.
     pub lack: u32,
+    /// The name of the member that is lacking, or 0.
     pub name: u32,
+    /// How the run ended.
     pub outcome: u32,
+    /// The steps.
     pub steps: u32,
+    /// Main's last slot, or 65,535 of an unfinished run.
     pub value: u32,
+    /// The number of objects.
     pub objects: u32,
 }
 
@@ -50,10 +70,15 @@ pub struct RunResult {
 #[repr(C)]
 #[derive(Clone, Copy, Debug, PartialEq, Eq)]
 pub struct AuthorityResult {
+    /// 0, or the number of the refusal.
     pub refusal: u32,
+    /// The line at fault, or 0.
     pub line: u32,
+    /// What is lacking, or 0.
     pub lack: u32,
+    /// The name of the member that is lacking, or 0.
     pub name: u32,
+    /// How many numbers were written.
     pub count: u32,
 }
 
@@ -62,14 +87,23 @@ pub struct AuthorityResult {
 #[repr(C)]
 #[derive(Clone, Copy, Debug, PartialEq, Eq)]
 pub struct ReportResult {
+    /// 0, or the number of the refusal.
     pub refusal: u32,
+    /// The line at fault, or 0.
     pub line: u32,
+    /// What is lacking, or 0.
     pub lack: u32,
+    /// The name of the member that is lacking, or 0.
     pub name: u32,
+    /// How the run ended.
     pub outcome: u32,
+    /// The steps.
     pub steps: u32,
+    /// Main's last slot, or 65,535 of an unfinished run.
     pub value: u32,
+    /// The number of objects.
     pub objects: u32,
+    /// How many numbers were written.
     pub count: u32,
 }
 
@@ -78,11 +112,17 @@ pub struct ReportResult {
 #[repr(C)]
 #[derive(Clone, Copy, Debug, PartialEq, Eq)]
 pub struct FormResult {
+    /// 0, or the number of the refusal.
     pub refusal: u32,
+    /// The line at fault, or 0.
     pub line: u32,
+    /// What is lacking, or 0.
     pub lack: u32,
+    /// The name of the member that is lacking, or 0.
     pub name: u32,
+    /// Where the lines begin in the text.
     pub start: usize,
+    /// How many bytes they have.
     pub length: usize,
 }
 
@@ -91,16 +131,34 @@ pub struct FormResult {
 #[repr(C)]
 #[derive(Clone, Copy, Debug, PartialEq, Eq)]
 pub struct BoundResult {
+    /// 0, or the number of the refusal.
     pub refusal: u32,
+    /// The line at fault, or 0.
     pub line: u32,
+    /// What is lacking, or 0.
     pub lack: u32,
+    /// The name of the member that is lacking, or 0.
     pub name: u32,
+    /// The steps.
     pub steps: u32,
 }
 
 /// A result, by the four numbers that it begins with.
 pub trait Begins {
+    /// The four numbers.
     fn four(&self) -> Four;
+
+    /// Nothing for 0, or the refusal that the four numbers say.
+    fn check(&self) -> Result<(), Error> {
+        match self.four() {
+            [0, ..] => Ok(()),
+            [number, line, lack, name] => {
+                let reason = Reason::try_from(number)?;
+                let lack = Lack::of(lack, name)?;
+                Err(Refusal { reason, line, lack }.into())
+            }
+        }
+    }
 }
 
 macro_rules! begin_alike {

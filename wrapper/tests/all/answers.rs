@@ -1,7 +1,8 @@
 //! The wrapper on the paper's sheet, and on the example of each refusal.
 
 use lexondar::{authority, bound, fit, form, group, report, run, verdict};
-use lexondar::{Fit, Held, Holders, Lack, Outcome, Reason, Refusal, Run, Walk, Work, MAIN};
+use lexondar::{Error, Fit, Held, Holders, Lack, Outcome, Reason, Refusal, Run, Walk, Work, MAIN};
+use std::fmt::Debug;
 
 const CLERK: &[u8] = include_bytes!("../../../examples/clerk.sheet");
 const MAKERS: &[u8] = include_bytes!("../../../examples/makers.sheet");
@@ -70,8 +71,7 @@ fn two_makers_hold_together_what_either_holds() {
     assert_eq!(joined(&[3, 2, 3]), Ok(vec![2, 3, 4, 5]));
     assert_eq!(joined(&[]), Ok(vec![]));
     for list in [&[2, 0][..], &[2; 17]] {
-        let refusal = joined(list).expect_err("no group");
-        assert_eq!((refusal.reason, refusal.line), (Reason::NoHolder, 0));
+        assert_eq!(joined(list), refused(Reason::NoHolder, 0));
     }
 }
 
@@ -92,8 +92,8 @@ fn the_clerk_s_forms_are_parts_of_the_caller_s_text() {
         start += lines.len();
     }
     for number in [3, usize::MAX] {
-        let refusal = form(CLERK, number, &mut work).expect_err("three forms");
-        assert_eq!((refusal.reason, refusal.line), (Reason::NotDefined, 0));
+        let given = form(CLERK, number, &mut work);
+        assert_eq!(given, refused(Reason::NotDefined, 0));
     }
 }
 
@@ -112,8 +112,18 @@ fn a_sheet_that_is_sure_to_finish_is_not_spent() {
     assert_eq!(run(CIRCULAR, steps, &mut work), Ok(done));
 }
 
-fn refused<T>(reason: Reason, line: u32) -> Result<T, Refusal> {
-    Err(Refusal { reason, line })
+/// A refusal that lacks nothing.
+fn refused<T>(reason: Reason, line: u32) -> Result<T, Error> {
+    refused_for(reason, line, None)
+}
+
+fn refused_for<T>(reason: Reason, line: u32, lack: Option<Lack>) -> Result<T, Error> {
+    Err(Error::Refused(Refusal { reason, line, lack }))
+}
+
+/// What a refusal says, in words.
+fn words<T: Debug>(given: Result<T, Error>) -> String {
+    given.expect_err("refused").to_string()
 }
 
 /// The examples of refused sheets, each with its reason and line.
@@ -125,7 +135,7 @@ const REFUSED: [(&str, Reason, u32); 8] = [
     ("refused-7-slot", Reason::NotDefined, 20),
     ("refused-8-pure", Reason::ImpureForm, 13),
     ("refused-9-method", Reason::NoSuchMember, 20),
-    ("refused-10-misfit", Reason::Misfit(Lack::Member(1)), 19),
+    ("refused-10-misfit", Reason::Misfit, 19),
 ];
 
 #[test]
@@ -134,8 +144,11 @@ fn each_refusal_has_its_name() {
     for (name, reason, line) in REFUSED {
         let root = env!("CARGO_MANIFEST_DIR");
         let text = std::fs::read(format!("{root}/../examples/{name}.sheet")).expect("an example");
-        assert_eq!(verdict(&text, &mut work), refused(reason, line), "{name}");
-        assert_eq!(bound(&text, &mut work), refused(reason, line), "{name}");
+        let lack = (reason == Reason::Misfit).then_some(Lack::Member(1));
+        let given = verdict(&text, &mut work);
+        assert_eq!(given, refused_for(reason, line, lack), "{name}");
+        let given = bound(&text, &mut work);
+        assert_eq!(given, refused_for(reason, line, lack), "{name}");
         let number = format!("refused-{}-", reason.number());
         assert!(name.starts_with(&number), "{name}");
     }
@@ -149,10 +162,9 @@ fn a_circular_call_is_refused_with_its_line() {
     let mut work = Work::new();
     let given = bound(CIRCULAR, &mut work);
     assert_eq!(given, refused(Reason::CircularCall, 21));
-    let refusal = given.expect_err("its own name");
-    assert_eq!(refusal.reason.number(), 12);
-    let words = "refusal 12 at line 21: a body calls its method's own name or a higher one";
-    assert_eq!(refusal.to_string(), words);
+    let said = "refusal 12 (circular call) at line 21: \
+                a body calls its method's own name or a higher one";
+    assert_eq!(words(given), said);
     // What the verdict refuses is refused alike.
     let torn = &CIRCULAR[..CIRCULAR.len() - 1];
     assert_eq!(bound(torn, &mut work), refused(Reason::Malformed, 35));
@@ -181,10 +193,8 @@ fn more_steps_than_32_bits_have_are_refused() {
     assert_eq!(verdict(text.as_bytes(), &mut work), Ok(()));
     let given = bound(text.as_bytes(), &mut work);
     assert_eq!(given, refused(Reason::BeyondCount, 0));
-    let refusal = given.expect_err("31 times 31, and so on");
-    assert_eq!(refusal.reason.number(), 13);
-    let words = "refusal 13: the most steps are over 4,294,967,295";
-    assert_eq!(refusal.to_string(), words);
+    let said = "refusal 13 (beyond count): the most steps are over 4,294,967,295";
+    assert_eq!(words(given), said);
 }
 
 /// A scale is device 0 and a valve device 1; the clerk, object 3, is given the
@@ -209,10 +219,8 @@ fn a_wrong_device_is_refused_with_its_line() {
     let mut work = Work::new();
     let given = verdict(WRONG_DEVICE, &mut work);
     assert_eq!(given, refused(Reason::WrongDevice, 23));
-    let refusal = given.expect_err("the clerk keeps a scale");
-    assert_eq!(refusal.reason.number(), 14);
-    let words = "refusal 14 at line 23: a device's form keeps a value or is pure";
-    assert_eq!(refusal.to_string(), words);
+    let said = "refusal 14 (wrong device) at line 23: a device's form keeps a value or is pure";
+    assert_eq!(words(given), said);
 }
 
 /// Rows 0 pure; 1 resource, method 4; 2 resource, field 4 and method 5.
@@ -231,7 +239,7 @@ fn what_is_lacking_is_said_in_words() {
     ];
     for (a, b, words) in cases {
         let walk = fit(ROWS, a, b, &mut work).expect("both rows are there");
-        assert_eq!(walk.fit.words(ROWS, a, b), words);
+        assert_eq!(walk.fit.words(ROWS, a, b).to_string(), words);
     }
 }
 
@@ -246,18 +254,14 @@ fn a_misfit_says_what_is_lacking() {
         (misfit("new=2,1", "new=2,0"), Lack::Member(1), 19),
     ];
     for (text, lack, line) in cases {
-        let refusal = verdict(&text, &mut work).expect_err("a misfit");
-        let wanted = Refusal {
-            reason: Reason::Misfit(lack),
-            line,
-        };
-        assert_eq!(refusal, wanted);
-        assert_eq!(refusal.reason.lack(), Some(lack));
-        let words = format!("refusal 10 at line {line}: a value does not fit: {lack}");
-        assert_eq!(refusal.to_string(), words);
+        let given = verdict(&text, &mut work);
+        assert_eq!(given, refused_for(Reason::Misfit, line, Some(lack)));
+        let said = "a value does not fit where it goes";
+        let said = format!("refusal 10 (misfit) at line {line}: {said}: {lack}");
+        assert_eq!(words(given), said);
     }
-    let words = "the wanted row asks for member 1";
-    assert_eq!(Lack::Member(1).to_string(), words);
+    let said = "the wanted row asks for member 1";
+    assert_eq!(Lack::Member(1).to_string(), said);
 }
 
 #[test]
@@ -265,10 +269,8 @@ fn a_number_that_is_no_holder_is_refused_after_the_run() {
     let (mut work, mut held) = (Work::new(), Held::new());
     for holder in [0, 3, 255, 257, usize::MAX] {
         let given = authority(CLERK, 8, holder, &mut work, &mut held);
-        let refusal = given.expect_err("no holder");
-        assert_eq!((refusal.reason, refusal.line), (Reason::NoHolder, 0));
-        assert_eq!(refusal.reason.number(), 11);
-        let words = "refusal 11: there is no such holder, or over 16 are listed";
-        assert_eq!(refusal.to_string(), words);
+        assert_eq!(given, refused(Reason::NoHolder, 0));
+        let said = "refusal 11 (no holder): there is no such holder, or over 16 are listed";
+        assert_eq!(words(given), said);
     }
 }

@@ -34,7 +34,8 @@ fn the_example_tells_what_every_holder_holds() {
 
 #[test]
 fn the_example_tells_why_a_sheet_is_refused() {
-    let lines = "refusal 8 at line 13: a pure row's form has a field or keeps a resource\n";
+    let lines = "refusal 8 (mixed pure) at line 13: \
+                 a pure row's form has a field or keeps a resource\n";
     let pure = include_bytes!("../../../examples/refused-8-pure.sheet");
     assert_eq!(printed(pure), lines);
 }

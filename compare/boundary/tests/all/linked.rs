@@ -1,9 +1,24 @@
 //! The example in C, linked as a terminal's firmware links the library.
 
+use crate::compiler::ROOT;
+use lexondar::Reason;
 use std::path::Path;
 use std::process::{Command, Stdio};
 
-const ROOT: &str = concat!(env!("CARGO_MANIFEST_DIR"), "/../..");
+/// What the example says on standard error, of the lines that it prints.
+fn words(printed: &[u8]) -> String {
+    let printed = String::from_utf8_lossy(printed);
+    let number = printed
+        .lines()
+        .find_map(|line| line.strip_prefix("verdict="));
+    let number: u32 = number
+        .and_then(|number| number.parse().ok())
+        .expect("a verdict");
+    match Reason::try_from(number) {
+        Ok(reason) => format!("{}: {reason}\n", reason.word()),
+        Err(_) => String::new(),
+    }
+}
 
 #[test]
 fn the_example_in_c_prints_the_stored_lines_of_every_example() {
@@ -41,21 +56,10 @@ fn the_example_in_c_prints_the_stored_lines_of_every_example() {
                 .expect("the example runs");
             let stored = std::fs::read(path.with_extension("printed")).expect("stored lines");
             assert!(output.stdout == stored, "{}", path.display());
+            let words = words(&stored);
+            assert_eq!(String::from_utf8_lossy(&output.stderr), words);
             count += 1;
         }
     }
     assert_eq!(count, 18);
-}
-
-#[test]
-fn the_header_stands_alone_in_c_and_in_cpp() {
-    for (compiler, language) in [("cc", "c"), ("c++", "c++")] {
-        let status = Command::new(compiler)
-            .args(["-x", language, "-fsyntax-only", "-Wall", "-Wextra"])
-            .args(["-Werror", "-pedantic"])
-            .arg(format!("{ROOT}/include/lexondar.h"))
-            .status()
-            .expect("the compiler is there");
-        assert!(status.success(), "{language}");
-    }
 }

@@ -2,28 +2,10 @@
 //! gets, and a memory checker sees no step outside a buffer and no answer that
 //! rests on what was never written.
 
+use crate::c_driver::{compiled, stored};
 use boundary::{authority, bound, fit, form, group, report, run, verdict};
 use boundary::{Begins, AUTHORITY, GROUP, REPORT, WORK};
-use std::path::{Path, PathBuf};
 use std::process::Command;
-
-const ROOT: &str = concat!(env!("CARGO_MANIFEST_DIR"), "/../..");
-
-/// A program of c/, linked with the library.
-fn compiled(name: &str) -> PathBuf {
-    let program = Path::new(env!("CARGO_TARGET_TMPDIR")).join(name);
-    let status = Command::new("cc")
-        .args(["-std=c99", "-Wall", "-Wextra", "-Werror", "-g", "-O1"])
-        .arg(format!("-I{ROOT}/include"))
-        .arg(format!("{}/c/{name}.c", env!("CARGO_MANIFEST_DIR")))
-        .arg(format!("{ROOT}/target/staticlib/liblexondar.a"))
-        .arg("-o")
-        .arg(&program)
-        .status()
-        .expect("cc is there");
-    assert!(status.success(), "{name}.c does not compile");
-    program
-}
 
 fn sheet(index: u64) -> Vec<u8> {
     match index % 4 {
@@ -32,18 +14,6 @@ fn sheet(index: u64) -> Vec<u8> {
         2 => generator::device(93, index),
         _ => generator::sheet(93, index),
     }
-}
-
-/// Sheets in one file, each after its length in four bytes.
-fn stored(sheets: &[Vec<u8>]) -> PathBuf {
-    let mut bytes = Vec::new();
-    for text in sheets {
-        bytes.extend((text.len() as u32).to_le_bytes());
-        bytes.extend(text);
-    }
-    let path = Path::new(env!("CARGO_TARGET_TMPDIR")).join("sheets");
-    std::fs::write(&path, bytes).expect("the sheets are written");
-    path
 }
 
 /// The sum that the program in C makes of all answers.
@@ -119,7 +89,8 @@ fn c_gets_the_same_answers_and_the_memory_checker_has_no_complaint_on_300_sheets
     for text in &sheets {
         sum.add_sheet(text);
     }
-    let (program, sheets) = (compiled("sweep"), stored(&sheets));
+    let program = compiled(&["sweep"], &["-g", "-O1"]);
+    let sheets = stored("sweep.sheets", &sheets);
     let plain = Command::new(&program).arg(&sheets).output();
     let plain = plain.expect("the program runs");
     assert!(plain.status.success(), "{:?}", plain.status);

@@ -1,0 +1,43 @@
+# The library for whoever links it:
+#
+#     make                          proves and builds target/staticlib/liblexondar.a
+#     make install PREFIX=/opt/x    header, archive and pkg-config file; DESTDIR is put before it
+#     make uninstall PREFIX=/opt/x
+#     make assumed                  what the proofs of the library and the program assume
+#     make check                    the gate, .ci/run
+
+PREFIX ?= /usr/local
+DESTDIR ?=
+
+archive := target/staticlib/liblexondar.a
+headers := include/lexondar.h include/lexondar_words.h
+version := $(shell sed -n 's/^#define LEXONDAR_VERSION "\(.*\)"/\1/p' include/lexondar.h)
+prefix := $(abspath $(PREFIX))
+to := $(DESTDIR)$(prefix)
+
+.PHONY: all install uninstall assumed check
+
+all:
+	@.ci/toolchain
+	rt staticlib lexondar
+
+# Where there is an archive, installing needs no toolchain.
+$(archive):
+	@.ci/toolchain
+	rt staticlib lexondar
+
+install: $(archive)
+	install -d $(to)/include $(to)/lib/pkgconfig
+	install -m 644 $(headers) $(to)/include
+	install -m 644 $(archive) $(to)/lib
+	sed -e 's|@PREFIX@|$(prefix)|' -e 's|@VERSION@|$(version)|' lexondar.pc.in >$(to)/lib/pkgconfig/lexondar.pc
+	chmod 644 $(to)/lib/pkgconfig/lexondar.pc
+
+uninstall:
+	rm -f $(addprefix $(to)/,$(headers)) $(to)/lib/liblexondar.a $(to)/lib/pkgconfig/lexondar.pc
+
+assumed:
+	@.ci/assumed
+
+check:
+	@.ci/run
