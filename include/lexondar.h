@@ -47,8 +47,8 @@
 #include <stdint.h>
 
 /*
- * The version of the header and the archive, here and nowhere else; the
- * changelog has what each one changed. As one number, to compare: 200 is 0.2.0.
+ * The version of the header and the archive is defined here; the changelog has
+ * what each one changed. As a number, to compare: 200 is 0.2.0.
  */
 #define LEXONDAR_VERSION "0.2.0"
 #define LEXONDAR_VERSION_NUMBER 200
