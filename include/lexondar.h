@@ -335,4 +335,7 @@ struct lexondar_bound_result lexondar_bound(const uint8_t *text, size_t text_len
 }
 #endif
 
+#undef LEXONDAR_MUST_USE
+#undef LEXONDAR_SIZE
+
 #endif

@@ -8,10 +8,15 @@ use std::process::Command;
 /// A program of these files of c/, linked with the library and named like the
 /// first.
 pub fn compiled(files: &[&str], flags: &[&str]) -> PathBuf {
-    let program = in_scratch(files[0]);
     let paths = files
         .iter()
         .map(|name| format!("{}/c/{name}.c", env!("CARGO_MANIFEST_DIR")));
+    linked(files[0], paths, flags)
+}
+
+/// A program of these sources, linked with the library.
+pub fn linked(name: &str, paths: impl IntoIterator<Item = String>, flags: &[&str]) -> PathBuf {
+    let program = in_scratch(name);
     let status = Command::new("cc")
         .args(["-std=c99", "-Wall", "-Wextra", "-Werror"])
         .args(flags)
@@ -22,7 +27,7 @@ pub fn compiled(files: &[&str], flags: &[&str]) -> PathBuf {
         .arg(&program)
         .status()
         .expect("cc is there");
-    assert!(status.success(), "{files:?} do not compile");
+    assert!(status.success(), "{name} does not compile");
     program
 }
 

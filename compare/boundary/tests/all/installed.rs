@@ -144,7 +144,7 @@ fn script(name: &str, path: &Path) -> (bool, String) {
 /// A folder with a few tools that every system has.
 fn path(name: &str) -> PathBuf {
     let path = folder(name);
-    for tool in ["dirname", "cat"] {
+    for tool in ["dirname", "cat", "sed"] {
         symlink(format!("/usr/bin/{tool}"), path.join(tool)).expect("a link");
     }
     path
@@ -191,4 +191,36 @@ fn another_toolchain_is_named_with_what_to_do() {
         pinned.trim()
     );
     assert!(line.contains(&wanted), "{line}");
+}
+
+/// Without the archive, and without the toolchain that builds it.
+#[test]
+fn installing_says_what_is_missing() {
+    let root = folder("not-built");
+    for part in ["include", ".ci"] {
+        fs::create_dir(root.join(part)).expect("a folder");
+    }
+    let parts = [
+        "Makefile",
+        "toolchain.txt",
+        "include/lexondar.h",
+        ".ci/toolchain",
+    ];
+    for part in parts {
+        fs::copy(format!("{ROOT}/{part}"), root.join(part)).expect("a file of the repository");
+    }
+    let output = Command::new("/usr/bin/make")
+        .env_remove("MAKEFLAGS")
+        .args(["-s", "install", "PREFIX=/nowhere"])
+        .current_dir(&root)
+        .env("PATH", path("no-toolchain"))
+        .output();
+    let (done, lines) = said(output.expect("make is there"));
+    assert!(!done);
+    let first = lines.lines().next();
+    assert_eq!(first, Some("missing: rt (the Rattle toolchain)"), "{lines}");
+    assert!(
+        lines.contains("target/staticlib/liblexondar.a] Error"),
+        "{lines}"
+    );
 }

@@ -1,5 +1,6 @@
 //! The example in C, linked as a terminal's firmware links the library.
 
+use crate::c_driver::linked;
 use crate::compiler::ROOT;
 use lexondar::Reason;
 use std::path::Path;
@@ -22,25 +23,8 @@ fn words(printed: &[u8]) -> String {
 
 #[test]
 fn the_example_in_c_prints_the_stored_lines_of_every_example() {
-    let program = Path::new(env!("CARGO_TARGET_TMPDIR")).join("holders");
-    let flags = [
-        "-std=c99",
-        "-Wall",
-        "-Wextra",
-        "-Werror",
-        "-pedantic",
-        "-O2",
-    ];
-    let status = Command::new("cc")
-        .args(flags)
-        .arg(format!("-I{ROOT}/include"))
-        .arg(format!("{ROOT}/examples/c/holders.c"))
-        .arg(format!("{ROOT}/target/staticlib/liblexondar.a"))
-        .arg("-o")
-        .arg(&program)
-        .status()
-        .expect("cc is there");
-    assert!(status.success(), "the example does not compile");
+    let source = format!("{ROOT}/examples/c/holders.c");
+    let program = linked("holders", [source], &["-pedantic", "-O2"]);
     let mut count = 0;
     for file in Path::new(ROOT)
         .join("examples")
