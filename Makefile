@@ -1,10 +1,10 @@
 # The library for whoever links it:
 #
-#     make                          proves and builds target/staticlib/liblexondar.a
-#     make install PREFIX=/opt/x    header, archive and pkg-config file; DESTDIR is put before it
-#     make uninstall PREFIX=/opt/x
-#     make assumed                  what the proofs of the library and the program assume
-#     make check                    the gate, .ci/run
+#     make                        proves and builds target/staticlib/liblexondar.a
+#     make install PREFIX=..      headers, archive and pkg-config file; DESTDIR is put before it
+#     make uninstall PREFIX=..
+#     make assumed                what the proofs of the library and the program assume
+#     make check                  the gate, .ci/run
 
 PREFIX ?= /usr/local
 DESTDIR ?=
@@ -14,17 +14,16 @@ headers := include/lexondar.h include/lexondar_words.h
 version := $(shell sed -n 's/^#define LEXONDAR_VERSION "\(.*\)"/\1/p' include/lexondar.h)
 prefix := $(abspath $(PREFIX))
 to := $(DESTDIR)$(prefix)
+build := .ci/toolchain && rt staticlib lexondar
 
 .PHONY: all install uninstall assumed check
 
 all:
-	@.ci/toolchain
-	rt staticlib lexondar
+	$(build)
 
-# Where there is an archive, installing needs no toolchain.
+# The archive that is there is installed, without the toolchain; after a change of the sources, `make` comes first.
 $(archive):
-	@.ci/toolchain
-	rt staticlib lexondar
+	$(build)
 
 install: $(archive)
 	install -d $(to)/include $(to)/lib/pkgconfig

@@ -11,7 +11,7 @@ fn main() {
     let folder = env::var_os(VARIABLE).map_or_else(built, PathBuf::from);
     let archive = folder.join("liblexondar.a");
     println!("cargo::rerun-if-changed={}", archive.display());
-    match fault(&folder, &archive) {
+    match fault(&archive) {
         Some(fault) => println!("cargo::error={fault}"),
         None => {
             println!("cargo::rustc-link-search=native={}", folder.display());
@@ -26,14 +26,14 @@ fn built() -> PathBuf {
 }
 
 /// What to do where there is no archive to link.
-fn fault(folder: &Path, archive: &Path) -> Option<String> {
-    let archive = archive.display();
-    if folder.is_relative() {
+fn fault(archive: &Path) -> Option<String> {
+    if archive.is_relative() {
         Some(format!("{VARIABLE} must be an absolute path"))
-    } else if !folder.join("liblexondar.a").is_file() {
+    } else if !archive.is_file() {
         Some(format!(
-            "{archive} is not there: `rt staticlib lexondar` builds it, \
-             and {VARIABLE} names the folder of one that is installed"
+            "{} is not there: `rt staticlib lexondar` builds it, \
+             and {VARIABLE} names the folder of one that is installed",
+            archive.display()
         ))
     } else {
         None

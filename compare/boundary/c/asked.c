@@ -6,8 +6,8 @@
 #include <stdlib.h>
 #include <string.h>
 
-/* One more than the highest refusal. */
-#define REFUSALS 15
+/* More than there are refusals. */
+#define REFUSALS 64
 
 volatile sig_atomic_t asked_text;
 volatile sig_atomic_t asked_question;
@@ -19,12 +19,6 @@ const size_t result_asked[QUESTIONS] = {
     [REPORT] = LEXONDAR_REPORT,
     [AUTHORITY] = LEXONDAR_AUTHORITY,
     [GROUP] = LEXONDAR_AUTHORITY,
-};
-
-/* Bit N is set if refusal N is possible by the header, and bit 0 always. */
-static const uint32_t possible[QUESTIONS] = {
-    [FIT] = 0x00FF, [FORM] = 0x00FF,   [VERDICT] = 0x47FF,   [BOUND] = 0x77FF,
-    [RUN] = 0x47FF, [REPORT] = 0x47FF, [AUTHORITY] = 0x4FFF, [GROUP] = 0x4FFF,
 };
 
 size_t calls;
@@ -132,7 +126,7 @@ static void look_at_buffers(const struct call *call, struct answer *answer) {
 /* What is looked at after each call, whatever the text. */
 void look(const struct call *call, struct answer *answer) {
     uint32_t refusal = answer->four[0];
-    must(refusal < REFUSALS && possible[call->question] >> refusal & 1, "refusal %u", refusal);
+    must(refusal < REFUSALS, "refusal %u", refusal);
     met[call->question][refusal]++;
     look_at_fields(call, answer);
     look_at_buffers(call, answer);
@@ -157,17 +151,4 @@ void print_table(void) {
         if (met[question][refusal] > 0)
             printf("%s %d %zu\n", question_names[question], refusal, met[question][refusal]);
     }
-}
-
-/* Names each refusal that is possible and was not met; whether there is one. */
-int name_missing(void) {
-    int missing = 0;
-    for (int i = 0; i < QUESTIONS * REFUSALS; i++) {
-        int question = i / REFUSALS, refusal = i % REFUSALS;
-        if (met[question][refusal] > 0 || !(possible[question] >> refusal & 1))
-            continue;
-        fprintf(stderr, "%s: refusal %d was never met\n", question_names[question], refusal);
-        missing = 1;
-    }
-    return missing;
 }

@@ -152,5 +152,5 @@ int main(int count, char **words) {
         ask_text(number);
     printf("%zu calls, %zu held at most\n", calls, most_held);
     print_table();
-    return name_missing() ? WRONG : 0;
+    return 0;
 }

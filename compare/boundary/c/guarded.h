@@ -92,7 +92,6 @@ extern const size_t result_asked[QUESTIONS];
 void ask(const struct call *call, struct answer *answer);
 void look(const struct call *call, struct answer *answer);
 void print_table(void);
-int name_missing(void);
 
 /* agreed.c */
 extern struct answer told[QUESTIONS];

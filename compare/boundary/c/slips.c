@@ -102,11 +102,6 @@ static void disagree(int room) {
     agree(&call, &given);
 }
 
-static void ask_too_little(int room) {
-    nothing(room);
-    exit(name_missing() ? WRONG : 0);
-}
-
 /* A slip, made for the rooms from the first to the last. */
 struct slip {
     const char *name;
@@ -124,7 +119,6 @@ static const struct slip slips[] = {
     {"change outside", change_outside, WORK_ROOM, RESULT_ROOM, WRONG},
     {"leave work", leave_work, WORK_ROOM, WORK_ROOM, WRONG},
     {"disagree", disagree, RESULT_ROOM, RESULT_ROOM, WRONG},
-    {"ask too little", ask_too_little, TEXT_ROOM, TEXT_ROOM, WRONG},
 };
 
 /* How the child ends that makes a slip. */

@@ -41,11 +41,15 @@ ASKS(report, 300, work, LEXONDAR_WORK, result, LEXONDAR_REPORT)
 ASKS(authority, 300, LEXONDAR_MAIN, work, LEXONDAR_WORK, result, LEXONDAR_AUTHORITY)
 ASKS(group, 300, list, length % 9, work, LEXONDAR_WORK, result, LEXONDAR_AUTHORITY)
 
-static void deep(void) {
+static __attribute__((noinline)) void dig(void) {
     volatile uint8_t bytes[3000];
+    bytes[0] = 0;
+    refusal = bytes[0];
+}
+
+static void deep(void) {
     STACK_POINTER(caller);
-    caller += sizeof bytes;
-    bytes[0] = (uint8_t)length;
+    dig();
 }
 
 static const struct {

@@ -78,21 +78,26 @@ fn named(line: &str) -> Option<&str> {
     (is_name && number.starts_with(|c: char| c.is_ascii_digit())).then_some(name)
 }
 
-/// A program that prints each name with its number.
+/// What a program prints by these statements.
+fn prints(compiler: &str, program: &str, statements: &str) -> String {
+    let source = format!(
+        "#include \"lexondar_words.h\"\n#include <stdio.h>\n\
+         int main(void) {{\n{statements}return 0;\n}}\n"
+    );
+    printed(compiler, &format!("{program}-{compiler}"), &source)
+}
+
+/// Prints each name with its number.
 fn lister(header: &str) -> String {
-    let mut source =
-        String::from("#include \"lexondar.h\"\n#include <stdio.h>\nint main(void) {\n");
-    for name in header.lines().filter_map(named) {
-        source += &format!("printf(\"%s %lu\\n\", \"{name}\", (unsigned long){name});\n");
-    }
-    source + "return 0;\n}\n"
+    let line = |name| format!("printf(\"%s %lu\\n\", \"{name}\", (unsigned long){name});\n");
+    header.lines().filter_map(named).map(line).collect()
 }
 
 #[test]
 fn c_cpp_and_rust_have_the_same_numbers_and_none_has_another() {
     let header = header();
     for compiler in ["cc", CPP] {
-        let lines = printed(compiler, &format!("constants-{compiler}"), &lister(&header));
+        let lines = prints(compiler, "constants", &lister(&header));
         let pairs = lines
             .lines()
             .map(|line| line.split_once(' ').expect("two words"));
@@ -130,8 +135,7 @@ fn layouts() -> Vec<(&'static str, &'static str, usize)> {
 
 #[test]
 fn results_are_laid_out_alike_in_c_cpp_and_rust() {
-    let mut source =
-        String::from("#include \"lexondar.h\"\n#include <stdio.h>\nint main(void) {\n");
+    let mut statements = String::new();
     let mut wanted = String::new();
     for (name, field, place) in layouts() {
         let result = format!("struct lexondar_{name}_result");
@@ -139,12 +143,11 @@ fn results_are_laid_out_alike_in_c_cpp_and_rust() {
             "" => format!("sizeof({result})"),
             field => format!("offsetof({result}, {field})"),
         };
-        source += &format!("printf(\"%lu\\n\", (unsigned long){given});\n");
+        statements += &format!("printf(\"%lu\\n\", (unsigned long){given});\n");
         wanted += &format!("{place}\n");
     }
-    source += "return 0;\n}\n";
     for compiler in ["cc", CPP] {
-        let lines = printed(compiler, &format!("layouts-{compiler}"), &source);
+        let lines = prints(compiler, "layouts", &statements);
         assert_eq!(lines, wanted, "{compiler}");
     }
 }
@@ -152,19 +155,15 @@ fn results_are_laid_out_alike_in_c_cpp_and_rust() {
 #[test]
 fn each_refusal_has_the_same_word_and_sentence_in_c_and_rust() {
     let last = Reason::ALL.len() as u32;
-    let source = format!(
-        "#include \"lexondar_words.h\"\n#include <stdio.h>\nint main(void) {{\n\
-         for (uint32_t i = 1; i <= {last} + 1; i++)\n\
-         printf(\"%s: %s\\n\", lexondar_word(i), lexondar_sentence(i));\nreturn 0;\n}}\n"
+    let statements = format!(
+        "for (uint32_t i = 1; i <= {last} + 1; i++)\n\
+         printf(\"%s: %s\\n\", lexondar_word(i), lexondar_sentence(i));\n"
     );
     let said = |reason: &Reason| format!("{}: {reason}\n", reason.word());
     let wanted: String = Reason::ALL.iter().map(said).collect();
     let wanted = wanted + "unknown: the number is of a later version\n";
     for compiler in ["cc", CPP] {
-        assert_eq!(
-            printed(compiler, &format!("words-{compiler}"), &source),
-            wanted
-        );
+        assert_eq!(prints(compiler, "words", &statements), wanted);
     }
 }
 

@@ -85,13 +85,13 @@ fn what_is_staged_names_its_last_place_and_what_is_uninstalled_is_gone() {
     let stage = folder("stage");
     let words = [
         format!("DESTDIR={}", stage.display()),
-        "PREFIX=/opt/terminal".into(),
+        "PREFIX=/terminal".into(),
     ];
     make(&["install", &words[0], &words[1]]);
-    let placed = stage.join("opt/terminal");
+    let placed = stage.join("terminal");
     assert_eq!(files(&placed), INSTALLED);
     let names = fs::read_to_string(placed.join("lib/pkgconfig/lexondar.pc")).expect("the file");
-    assert!(names.starts_with("prefix=/opt/terminal\n"), "{names}");
+    assert!(names.starts_with("prefix=/terminal\n"), "{names}");
     make(&["uninstall", &words[0], &words[1]]);
     assert_eq!(files(&stage), [""; 0]);
 }

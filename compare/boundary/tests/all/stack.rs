@@ -2,6 +2,7 @@
 //! the header says.
 
 use crate::c_driver::{compiled, stored};
+use crate::guarded::sheets;
 use lexondar::raw::STACK;
 use std::collections::BTreeMap;
 use std::process::Command;
@@ -13,16 +14,12 @@ const RED_ZONE: usize = 128;
 fn no_question_takes_more_stack_than_the_header_says() {
     // Functions are bound before the first call: binding takes stack of its own.
     let program = compiled(&["stack", "texts"], &["-O2", "-Wl,-z,now"]);
-    let sheets: Vec<Vec<u8>> = (0..1_000)
-        .map(|index| generator::device(95, index))
-        .collect();
     let output = Command::new(program)
-        .arg(stored("stack.sheets", &sheets))
+        .arg(stored("stack.sheets", &sheets()))
         .output()
         .expect("the program runs");
     assert!(output.status.success(), "{:?}", output.status);
     let lines = String::from_utf8(output.stdout).expect("plain text");
-    println!("bytes of stack:\n{lines}");
     let pairs = lines
         .lines()
         .map(|line| line.split_once(' ').expect("two words"));
@@ -31,7 +28,7 @@ fn no_question_takes_more_stack_than_the_header_says() {
     let deep = taken
         .remove("deep")
         .expect("the function that writes far down");
-    assert!(deep > 3_000, "{deep} bytes are seen of over 3,000");
+    assert!(deep > 3_000, "{deep} bytes");
     assert_eq!(taken.len(), 8, "{lines}");
     for (question, bytes) in taken {
         assert!(bytes > RED_ZONE, "{question}: {bytes} bytes");
