@@ -1,8 +1,9 @@
-# The library for whoever links it:
+# The library for whoever links it, and the command for whoever writes sheets:
 #
 #     make                        proves and builds target/staticlib/liblexondar.a
 #     make install PREFIX=..      headers, archive and pkg-config file; DESTDIR is put before it
-#     make uninstall PREFIX=..
+#     make install-desk PREFIX=.. the command for people who write sheets
+#     make uninstall PREFIX=..    all of these
 #     make assumed                what the proofs of the library and the program assume
 #     make check                  the gate, .ci/run
 
@@ -16,7 +17,7 @@ prefix := $(abspath $(PREFIX))
 to := $(DESTDIR)$(prefix)
 build := .ci/toolchain && rt staticlib lexondar
 
-.PHONY: all install uninstall assumed check
+.PHONY: all install install-desk uninstall assumed check
 
 all:
 	$(build)
@@ -32,8 +33,13 @@ install: $(archive)
 	sed -e 's|@PREFIX@|$(prefix)|' -e 's|@VERSION@|$(version)|' lexondar.pc.in >$(to)/lib/pkgconfig/lexondar.pc
 	chmod 644 $(to)/lib/pkgconfig/lexondar.pc
 
+install-desk: $(archive)
+	cargo build --quiet --release --offline -p desk
+	install -d $(to)/bin
+	install -m 755 target/cargo/release/desk $(to)/bin
+
 uninstall:
-	rm -f $(addprefix $(to)/,$(headers)) $(to)/lib/liblexondar.a $(to)/lib/pkgconfig/lexondar.pc
+	rm -f $(addprefix $(to)/,$(headers)) $(to)/lib/liblexondar.a $(to)/lib/pkgconfig/lexondar.pc $(to)/bin/desk
 
 assumed:
 	@.ci/assumed
