@@ -4,6 +4,7 @@ use crate::line::{lines, Entry, Line};
 use crate::reader::read;
 use crate::reading::{Owner, Place, Reading};
 use crate::slot::{filled, Slot};
+use crate::words::quoted;
 use lexondar::{Reason, Refusal};
 use std::ops::Range;
 
@@ -35,8 +36,13 @@ impl Finding {
     }
 
     /// With another note.
-    pub fn note(mut self, words: impl Into<String>) -> Finding {
-        self.notes.push(words.into());
+    pub fn note(self, words: impl Into<String>) -> Finding {
+        self.noted(Some(words.into()))
+    }
+
+    /// With another note, if there is one.
+    pub fn noted(mut self, words: Option<String>) -> Finding {
+        self.notes.extend(words);
         self
     }
 }
@@ -117,8 +123,7 @@ impl<'a> Case<'a> {
     pub fn cited(&self, line: usize) -> String {
         match line.checked_sub(1).and_then(|place| self.lines.get(place)) {
             Some(cited) => {
-                let words = String::from_utf8_lossy(cited.bytes);
-                format!("`{words}`, line {line}")
+                format!("`{}`, line {line}", quoted(cited.bytes))
             }
             None => format!("line {line}"),
         }

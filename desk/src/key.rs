@@ -1,6 +1,7 @@
 //! The keys of a sheet, and what the numbers behind each are.
 
 use std::ops::RangeInclusive;
+use Role::{Form, KeptValue, Limited, LowerRow, Row, Slot};
 
 /// The keys that may begin a line.
 #[derive(Clone, Copy, Debug, PartialEq, Eq)]
@@ -37,8 +38,6 @@ pub enum Role {
     KeptValue,
     Slot(&'static str),
 }
-
-use Role::*;
 
 const NAME: Role = Limited("name", 0, 63);
 const INSTRUCTIONS: Role = Limited("number of instructions", 1, 32);

@@ -92,8 +92,9 @@ impl Entry {
 
 /// The number that a piece is, a decimal without leading zeros.
 fn number_of(piece: &Piece) -> Option<Number> {
+    let plain = !matches!(piece.bytes, [b'0', _, ..] | [b'+', ..]);
     let digits = std::str::from_utf8(piece.bytes).ok()?;
-    let value = digits.parse::<u16>().ok()?;
+    let value = digits.parse().ok().filter(|_| plain)?;
     let span = piece.span.clone();
-    (value.to_string() == digits).then_some(Number { value, span })
+    Some(Number { value, span })
 }

@@ -9,14 +9,18 @@ use lexondar::{Error, Run};
 /// Each holder with what it holds, main first.
 pub type Sets = Vec<(u16, Vec<u16>)>;
 
-/// How a holder got something.
+/// How a holder got something: by creation, by a call, or by a return.
 #[derive(Clone, Copy, Debug, PartialEq, Eq)]
 pub enum Way {
-    /// It created the resource, or was created, or was created with it.
-    Created(&'static str),
-    /// By this holder.
+    /// It created the resource.
+    Created,
+    /// It was created, and holds itself.
+    WasCreated,
+    /// It was created with the resource, by this holder.
+    CreatedWith(u16),
+    /// It was called with the resource, by this holder.
     Called(u16),
-    /// By this holder.
+    /// It was returned the resource, by this holder.
     Returned(u16),
 }
 
@@ -143,12 +147,12 @@ fn beyond(held: &Sets, other: &Sets) -> Vec<(u16, u16)> {
 fn way(step: &Step, holder: u16, resource: u16) -> Option<Way> {
     match &step.event {
         Event::Made { object, kept, .. } => match (holder == *object, resource == *object) {
-            (true, true) => Some(Way::Created("was created")),
+            (true, true) => Some(Way::WasCreated),
             (true, false) => {
                 let with = kept.contains(&resource);
-                with.then_some(Way::Created("was created with it"))
+                with.then_some(Way::CreatedWith(step.holder))
             }
-            (false, true) => (holder == step.holder).then_some(Way::Created("created it")),
+            (false, true) => (holder == step.holder).then_some(Way::Created),
             (false, false) => None,
         },
         Event::Called {

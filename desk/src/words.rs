@@ -47,6 +47,16 @@ pub fn numbers(numbers: &[u16], none: &str) -> String {
     }
 }
 
+/// Bytes as they are quoted: printable, and of many only the first.
+pub fn quoted(bytes: &[u8]) -> String {
+    const MOST: usize = 40;
+    let shown = bytes.escape_ascii().to_string();
+    match shown.len() > MOST {
+        true => format!("{}..", &shown[..MOST]),
+        false => shown,
+    }
+}
+
 /// A kind of row.
 pub fn kind(resource: bool) -> &'static str {
     match resource {

@@ -80,7 +80,9 @@ fn change_shown(change: &Change) -> String {
     } in &change.gains
     {
         let by = match way {
-            Some(Way::Created(words)) => format!(": {words}"),
+            Some(Way::Created) => ": created it".into(),
+            Some(Way::WasCreated) => ": was created".into(),
+            Some(Way::CreatedWith(by)) => format!(": was created with it by {}", name(*by)),
             Some(Way::Called(by)) => format!(": was called with it by {}", name(*by)),
             Some(Way::Returned(by)) => format!(": was returned it by {}", name(*by)),
             None => String::new(),

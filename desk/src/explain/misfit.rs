@@ -8,7 +8,8 @@ use crate::line::Entry;
 use crate::reading::{Op, Owner, Part, Place, Shape};
 use crate::slot::{field, row_of, Slot};
 use crate::words::{counted, here, member, numbers, row, slots};
-use lexondar::Lack;
+use lexondar::{Fit, Lack};
+use std::collections::HashMap;
 
 /// A value that goes somewhere: its row, the row that is asked for, the number
 /// of the line that names it, and who asks.
@@ -50,18 +51,13 @@ pub fn misfit(library: &mut Library, case: &Case) -> Option<Finding> {
         Some(number) => at_number(&entry, number, label)?,
         None => Finding::at(0..case.line()?.bytes.len(), label),
     };
-    let reading = &case.reading;
-    let finding = finding.note(lacking(
-        library,
-        case.text,
-        reading,
-        (demand.given, demand.asked),
-        lack,
-    )?);
-    Some(match would_do(library, case, demand.asked) {
-        Some(note) => finding.note(note),
-        None => finding,
-    })
+    let pair = (demand.given, demand.asked);
+    let why = lacking(library, case.text, &case.reading, pair, lack);
+    Some(
+        finding
+            .noted(why)
+            .noted(would_do(library, case, demand.asked)),
+    )
 }
 
 /// A `new` that has not one slot for each kept value.
@@ -74,13 +70,8 @@ fn count(case: &Case, entry: &Entry) -> Option<Finding> {
         case.cited(form.head.line),
         here(entry.numbers.len() - 1, "slot")
     );
-    let from = entry
-        .numbers
-        .get(1)
-        .unwrap_or(entry.numbers.first()?)
-        .span
-        .start;
-    let finding = Finding::at(from..case.line()?.bytes.len(), label);
+    let slots = entry.numbers.get(1).or(entry.numbers.first())?;
+    let finding = Finding::at(slots.span.start..case.line()?.bytes.len(), label);
     let rows = form.keeps.iter().map(|keep| format!("row {}", keep.row));
     let rows: Vec<String> = rows.collect();
     Some(match rows.is_empty() {
@@ -97,12 +88,8 @@ fn instr_demands(case: &Case, owner: Owner, place: usize) -> Option<Vec<Demand>>
     let mut demands = op_demands(case, owner, op, &slots)?;
     if place + 1 == code.head.count {
         if let Owner::Body { form, part } = owner {
-            demands.push(result_demand(
-                case,
-                form,
-                part,
-                row_of(&case.reading, owner, op, &slots)?,
-            )?);
+            let given = row_of(&case.reading, owner, op, &slots)?;
+            demands.push(result_demand(case, form, part, given)?);
         }
     }
     Some(demands)
@@ -219,47 +206,47 @@ fn result_demand(case: &Case, form: usize, part: usize, given: usize) -> Option<
 /// The values that could stand there, and which of them the library says would
 /// fit.
 fn would_do(library: &mut Library, case: &Case, asked: usize) -> Option<String> {
-    let (thing, there, rows): (_, _, Vec<Option<usize>>) = match case.place()? {
-        Place::Instr(..) => {
-            let filled = case.slots();
-            let rows = filled.iter().map(|slot| slot.row).collect();
-            (
-                "slot",
-                format!("slots filled here: {}", slots(&filled)),
-                rows,
-            )
-        }
-        Place::Part(form, _) => {
-            let keeps = &case.reading.forms.get(form)?.keeps;
-            let words = keeps.iter().enumerate();
-            let words: Vec<String> = words
-                .map(|(n, keep)| format!("{n} (row {})", keep.row))
-                .collect();
-            let rows = keeps.iter().map(|keep| Some(keep.row)).collect();
-            (
-                "kept value",
-                format!("kept values: {}", words.join(", ")),
-                rows,
-            )
-        }
-        _ => return None,
-    };
-    let mut answers = std::collections::HashMap::new();
+    let (thing, there, rows) = candidates(case)?;
+    let mut answers = HashMap::new();
     let mut fits = |row: usize| {
         *answers.entry(row).or_insert_with(|| {
             let walk = library.fit(case.text, row, asked);
-            walk.is_ok_and(|walk| walk.fit == lexondar::Fit::Yes)
+            walk.is_ok_and(|walk| walk.fit == Fit::Yes)
         })
     };
-    let fitting = rows
-        .iter()
-        .zip(0u16..)
-        .filter(|(row, _)| row.is_some_and(&mut fits));
+    let numbered = rows.iter().zip(0u16..);
+    let fitting = numbered.filter(|(row, _)| row.is_some_and(&mut fits));
     let fitting: Vec<u16> = fitting.map(|(_, number)| number).collect();
-    let which = match fitting.len() {
-        0 => "none would fit".into(),
-        1 => format!("{thing} {} would fit", fitting[0]),
+    let which = match fitting[..] {
+        [] => "none would fit".into(),
+        [one] => format!("{thing} {one} would fit"),
         _ => format!("{thing}s {} would fit", numbers(&fitting, "")),
     };
     Some(format!("{there}; {which}"))
+}
+
+/// What could stand there: what it is called, a list of all, and the row of
+/// each.
+fn candidates(case: &Case) -> Option<(&'static str, String, Vec<Option<usize>>)> {
+    match case.place()? {
+        Place::Instr(..) => {
+            let filled = case.slots();
+            let rows = filled.iter().map(|slot| slot.row).collect();
+            let there = format!("slots filled here: {}", slots(&filled));
+            Some(("slot", there, rows))
+        }
+        Place::Part(form, _) => {
+            let keeps = &case.reading.forms.get(form)?.keeps;
+            let rows = keeps.iter().map(|keep| Some(keep.row)).collect();
+            let words = keeps.iter().enumerate();
+            let words = words.map(|(place, keep)| format!("{place} (row {})", keep.row));
+            let words: Vec<String> = words.collect();
+            Some((
+                "kept value",
+                format!("kept values: {}", words.join(", ")),
+                rows,
+            ))
+        }
+        _ => None,
+    }
 }

@@ -12,11 +12,7 @@ pub fn missing(case: &Case) -> Option<Finding> {
     let mut found = numbers.filter_map(|(place, number)| {
         let named = usize::from(number.value);
         let (label, note) = fault(case, entry.key.role(place)?, named)?;
-        let finding = at_number(&entry, place, label)?;
-        Some(match note {
-            Some(note) => finding.note(note),
-            None => finding,
-        })
+        Some(at_number(&entry, place, label)?.noted(note))
     });
     found.next()
 }

@@ -2,10 +2,10 @@
 
 use super::wanted::{named, wanted};
 use crate::finding::{Case, Finding};
-use crate::key::Key;
+use crate::key::{Key, Role};
 use crate::line::{Line, Piece};
-use crate::reading::{Head, Place};
-use crate::words::{counted, here, thousands};
+use crate::reading::{Head, Place, Reading};
+use crate::words::{counted, here, quoted, thousands};
 
 /// What is out of shape: the file's own habits first, then the key, the
 /// numbers, and the end of the line.
@@ -82,17 +82,38 @@ fn after_main(case: &Case, line: &Line, place: Place) -> Option<Finding> {
         format!("nothing may follow: main has {instructions} ({cited}), and they are there");
     let finding = Finding::at(0..line.bytes.len(), label);
     let key = line.word().and_then(Key::of);
-    Some(match key.and_then(|key| miscounted(case, key)) {
-        Some(note) => finding.note(note),
-        None => finding,
-    })
+    Some(finding.noted(key.and_then(|key| miscounted(case, key))))
 }
 
 /// A line that the count before would have taken, had it been higher: what that
-/// count would be.
+/// count would be, if it may be as high.
 fn miscounted(case: &Case, key: Key) -> Option<String> {
-    let reading = &case.reading;
-    let (head, keys): (Head, &[Key]) = match *reading.places.last()? {
+    let (head, keys) = counter(&case.reading)?;
+    let from = &case.lines[case.refusal.line as usize - 1..];
+    let keys_there = from.iter().map_while(|line| Key::of(line.word()?));
+    let more = keys_there.take_while(|key| keys.contains(key)).count();
+    let lines = match more {
+        1 => "this line".into(),
+        _ => format!("these {more} lines"),
+    };
+    let said = case.lines.get(head.line.checked_sub(1)?)?;
+    let entry = said.entry()?;
+    let last = entry.numbers.len() - 1;
+    let Some(Role::Limited(_, _, most)) = entry.key.role(last) else {
+        return None;
+    };
+    let before = quoted(&said.bytes[..entry.numbers[last].span.start]);
+    let count = head.count + more;
+    let note = format!(
+        "`{before}{count}` on line {} would count {lines} too",
+        head.line
+    );
+    (keys.contains(&key) && count <= usize::from(most)).then_some(note)
+}
+
+/// What counts the lines before: the line that says how many, and their keys.
+fn counter(reading: &Reading) -> Option<(Head, &'static [Key])> {
+    Some(match *reading.places.last()? {
         Place::Row(row) | Place::Member(row, _) => {
             (reading.rows.get(row)?.head, &[Key::Def, Key::Var])
         }
@@ -100,82 +121,51 @@ fn miscounted(case: &Case, key: Key) -> Option<String> {
         Place::Devices | Place::Device(_) => (reading.equipped?, &[Key::Device]),
         Place::Instr(owner, _) => (reading.code(owner)?.head, &Key::INSTRUCTIONS),
         _ => return None,
-    };
-    let from = &case.lines[case.refusal.line as usize - 1..];
-    let is_counted = |line: &&Line| {
-        line.word()
-            .and_then(Key::of)
-            .is_some_and(|key| keys.contains(&key))
-    };
-    let more = from.iter().take_while(is_counted).count();
-    let lines = match more {
-        1 => "this line".into(),
-        _ => format!("these {more} lines"),
-    };
-    let said = std::str::from_utf8(case.lines.get(head.line - 1)?.bytes).ok()?;
-    let before = said.trim_end_matches(|letter: char| letter.is_ascii_digit());
-    let count = head.count + more;
-    let note = format!(
-        "`{before}{count}` on line {} would count {lines} too",
-        head.line
-    );
-    keys.contains(&key).then_some(note)
+    })
 }
 
 /// What stands before `=`.
 fn key(case: &Case, line: &Line, place: Option<Place>) -> Option<Finding> {
     let wanted = place.and_then(|place| wanted(case, place));
-    let hint = match &wanted {
-        Some((keys, why)) => format!("wanted is {}: {why}", named(keys)),
-        None => String::new(),
-    };
+    let hint = wanted
+        .as_ref()
+        .map(|(keys, why)| format!("wanted is {}: {why}", named(keys)));
     let Some(word) = line.word() else {
-        return Some(no_equals(line, hint));
+        return Some(no_equals(line).noted(hint));
     };
-    let with_hint = |label: String| match hint.as_str() {
-        "" => Finding::at(0..word.len(), label),
-        _ => Finding::at(0..word.len(), label).note(hint.clone()),
+    let Some(key) = Key::of(word) else {
+        return Some(Finding::at(0..word.len(), no_key(word)).noted(hint));
     };
-    let shown = word.escape_ascii();
-    match (Key::of(word), wanted) {
-        (Some(key), Some((keys, why))) if !keys.contains(&key) => {
-            let label = format!("`{}` where {} is wanted: {why}", key.word(), named(&keys));
-            let finding = Finding::at(0..word.len(), label);
-            Some(match miscounted(case, key) {
-                Some(note) => finding.note(note),
-                None => finding,
-            })
+    let (keys, why) = wanted.filter(|(keys, _)| !keys.contains(&key))?;
+    let label = format!("`{}` where {} is wanted: {why}", key.word(), named(&keys));
+    Some(Finding::at(0..word.len(), label).noted(miscounted(case, key)))
+}
+
+/// A word that is no key.
+fn no_key(word: &[u8]) -> String {
+    let small = word.to_ascii_lowercase();
+    let shown = quoted(word);
+    match Key::of(small.trim_ascii()) {
+        _ if word.is_empty() => "no key before `=`".into(),
+        Some(key) if small != word => {
+            format!(
+                "`{shown}`: a key is in small letters alone, `{}`",
+                key.word()
+            )
         }
-        (Some(_), _) => None,
-        (None, _) if word.is_empty() => Some(with_hint("no key before `=`".into())),
-        (None, _) => {
-            let small = word.to_ascii_lowercase();
-            Some(with_hint(match Key::of(small.trim_ascii()) {
-                Some(key) if small != word => {
-                    format!(
-                        "`{shown}`: a key is in small letters alone, `{}`",
-                        key.word()
-                    )
-                }
-                Some(key) => format!("`{shown}`: no space goes with a key, `{}`", key.word()),
-                None => format!("there is no key `{shown}`"),
-            }))
-        }
+        Some(key) => format!("`{shown}`: no space goes with a key, `{}`", key.word()),
+        None => format!("there is no key `{shown}`"),
     }
 }
 
 /// A line that has no `=`.
-fn no_equals(line: &Line, hint: String) -> Finding {
+fn no_equals(line: &Line) -> Finding {
     let comment = [&b"#"[..], b"//", b";", b"--"];
     let label = match comment.iter().any(|start| line.bytes.starts_with(start)) {
         true => "a sheet has no comments",
         false => "there is no `=`; a line is a key, `=` and numbers with `,` between",
     };
-    let finding = Finding::at(0..line.bytes.len(), label);
-    match hint.as_str() {
-        "" => finding,
-        _ => finding.note(hint),
-    }
+    Finding::at(0..line.bytes.len(), label)
 }
 
 /// What stands behind `=`.
@@ -190,23 +180,19 @@ fn numbers(line: &Line) -> Option<Finding> {
 
 /// What is wrong with a number.
 fn number(piece: &Piece) -> Option<String> {
-    let shown = piece.bytes.escape_ascii();
+    let shown = quoted(piece.bytes);
     let digits = piece.bytes.iter().all(u8::is_ascii_digit);
-    let rest = piece.bytes.iter().skip_while(|byte| **byte == b'0');
-    let plain: Vec<u8> = rest.copied().collect();
     Some(match piece.bytes {
         [] => "a number is missing".into(),
         bytes if bytes.iter().any(u8::is_ascii_whitespace) => {
             format!("`{shown}`: nothing but digits makes a number, and no space goes with it")
         }
         _ if !digits => format!("`{shown}` is no number from 0 to 65,535"),
-        [b'0', _, ..] => {
-            let plain = if plain.is_empty() {
-                b"0".to_vec()
-            } else {
-                plain
-            };
-            format!("a leading zero: write {}", plain.escape_ascii())
+        [b'0', rest @ ..] if !rest.is_empty() => {
+            let zeros = rest.iter().take_while(|digit| **digit == b'0').count();
+            // Of zeros alone the last one stays.
+            let plain = &rest[zeros.min(rest.len() - 1)..];
+            format!("a leading zero: write {}", quoted(plain))
         }
         bytes if std::str::from_utf8(bytes).ok()?.parse::<u16>().is_err() => {
             "the largest number is 65,535".into()

@@ -4,6 +4,7 @@
 use crate::common::{folder, said, word};
 use crate::json::Value;
 use desk::commands::judge;
+use desk::finding::Finding;
 use desk::format::{Format, Judged};
 use desk::library::Library;
 use desk::style::Style;
@@ -105,6 +106,15 @@ fn number_and_line_are_the_library_s_in_every_format() {
         let judged = judge(&mut asked, &text, unattended);
         let wanted = library(&bytes, unattended);
         is_told(&judged, wanted);
+        if index < 1_000 {
+            // And where the lines add nothing.
+            let bare = Judged {
+                text: &text,
+                answer: judged.answer,
+                finding: Finding::default(),
+            };
+            is_told(&bare, wanted);
+        }
         // The lines have something to say of every refusal that has a line.
         let marked = judged.finding.mark.is_some();
         assert_eq!(marked, wanted.1 > 0, "{index}: {wanted:?}");

@@ -123,19 +123,21 @@ fn standard_input_is_a_sheet_and_is_read_to_its_end() {
         Some("done after 8 steps")
     );
     let long = clerk.repeat(20_000);
+    assert_eq!(long.len(), 3_340_000);
     let said = fed(&["check", "-"], &long);
-    assert!(
-        said.out.starts_with("<stdin>: refusal 2 (long sheet)"),
-        "{}",
-        said.out
-    );
-    let bytes = format!("it has {},", "4,420,000");
-    assert_eq!(long.len(), 20_000 * clerk.len());
-    assert!(
-        said.out.contains("bytes") || said.out.contains(&bytes),
-        "{}",
-        said.out
-    );
+    let wanted = "<stdin>: refusal 2 (long sheet): the text is over 65,535 bytes\n  \
+                  = it has 3,340,000 bytes, 3,274,465 too many\n";
+    assert_eq!(said.out, wanted);
+}
+
+#[test]
+fn a_file_that_is_too_long_is_told_its_length() {
+    let folder = folder("long");
+    let long = folder.join("long.sheet");
+    fs::write(&long, vec![b'x'; 70_000]).expect("a file");
+    let said = said(&["check", word(&long)]);
+    let note = "  = it has 70,000 bytes, 4,465 too many";
+    assert_eq!(said.out.lines().last(), Some(note));
 }
 
 /// A device never ends, and no more of it is read than is needed.

@@ -92,6 +92,18 @@ fn torn() -> Vec<(&'static str, Vec<u8>)> {
         ("missing-device", with(16, "devices=1")),
         ("devices-twice", lines(DEVICES_TWICE)),
         (
+            "a-very-long-key",
+            with(7, &format!("{}=3", "forms".repeat(900))),
+        ),
+        (
+            "a-very-long-number",
+            with(7, &format!("forms=3{}", "x3".repeat(900))),
+        ),
+        (
+            "over-the-limit-of-main",
+            clerk(|clerk| clerk.to_string() + &"copy=0\n".repeat(29)),
+        ),
+        (
             "a-very-long-line",
             with(19, &format!("new=2,1{}", ",1".repeat(4_000))),
         ),

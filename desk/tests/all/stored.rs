@@ -1,6 +1,7 @@
 //! What is printed for every example sheet, and the pages of help.
 
-use crate::common::{examples, is_stored, said};
+use crate::common::{desk, examples, is_stored, said, Said, ROOT};
+use std::fs;
 
 /// What a user types and sees: both outputs, one after the other, and the exit
 /// status.
@@ -64,6 +65,28 @@ fn pages() {
     printed += &transcript(&["explain"]);
     printed += &transcript(&["explain", "10"]);
     is_stored("help.txt", &printed);
+}
+
+/// README shows what is printed, and names every word.
+#[test]
+fn readme_shows_what_is_printed() {
+    let readme = fs::read_to_string(format!("{ROOT}/README.md")).expect("README");
+    let misfit = "examples/refused-10-misfit.sheet";
+    let output = desk(&["check", misfit]).current_dir(ROOT).output();
+    let printed: Said = output.expect("the command starts").into();
+    let shown = printed.out.lines().map(|line| format!("    {line}\n"));
+    assert!(
+        readme.contains(&shown.collect::<String>()),
+        "{}",
+        printed.out
+    );
+    for command in &desk::commands::COMMANDS {
+        assert!(
+            readme.contains(&format!("`{} ", command.word)),
+            "{}",
+            command.word
+        );
+    }
 }
 
 #[test]

@@ -6,6 +6,8 @@ use desk::library::Library;
 use desk::line::lines;
 use desk::reader::read;
 use desk::timeline::{timeline, Gain, Sets, Timeline, Way};
+use second::machine::Machine;
+use second::sheet::Instruction;
 use std::collections::{BTreeMap, BTreeSet};
 
 type Held = BTreeMap<u16, BTreeSet<u16>>;
@@ -24,49 +26,65 @@ fn reported(library: &mut Library, text: &[u8], budget: u32) -> Held {
         .collect()
 }
 
-/// Whether the sets before the step, and the number of objects around it, are
-/// as the paper's rule for this gain asks.
-fn is_allowed(gain: &Gain, made: Option<u16>, before: &Held) -> bool {
-    let Gain {
-        holder,
-        resource,
-        way,
-    } = gain;
-    let held_by = |who: &u16| before.get(who).is_some_and(|held| held.contains(resource));
-    match way {
-        Some(Way::Created("created it")) => made == Some(*resource) && before.contains_key(holder),
-        Some(Way::Created("was created")) => made == Some(*resource) && holder == resource,
-        Some(Way::Created("was created with it")) => {
-            made == Some(*holder) && before.keys().any(held_by)
+/// The step before which the second program stands.
+enum Next {
+    Creation { made: u16 },
+    Call,
+    Return,
+    Other,
+}
+
+fn next(machine: &Machine) -> Next {
+    match machine.next().map(|placed| &placed.instruction) {
+        Some(Instruction::New { .. }) => Next::Creation {
+            made: machine.objects.len() as u16,
+        },
+        Some(Instruction::Call { .. }) => Next::Call,
+        Some(_) => Next::Other,
+        None => Next::Return,
+    }
+}
+
+/// Whether the step, and the sets before it, are as the paper's rule for this
+/// gain asks.
+fn is_allowed(gain: &Gain, next: &Next, before: &Held) -> bool {
+    let (holder, resource) = (gain.holder, gain.resource);
+    let held_by = |who: u16| {
+        before
+            .get(&who)
+            .is_some_and(|held| held.contains(&resource))
+    };
+    match (gain.way, next) {
+        (Some(Way::Created), Next::Creation { made }) => {
+            resource == *made && before.contains_key(&holder)
         }
-        Some(Way::Called(by)) => made.is_none() && held_by(by),
-        Some(Way::Returned(by)) => made.is_none() && by != holder && held_by(by),
+        (Some(Way::WasCreated), Next::Creation { made }) => resource == *made && holder == *made,
+        (Some(Way::CreatedWith(by)), Next::Creation { made }) => holder == *made && held_by(by),
+        (Some(Way::Called(by)), Next::Call) => held_by(by),
+        (Some(Way::Returned(by)), Next::Return) => by != holder && held_by(by),
         _ => false,
     }
 }
 
 /// Walks along a timeline; counts how many gains it has of each way.
-fn walk(library: &mut Library, text: &[u8], timeline: &Timeline, counts: &mut [u32; 3]) {
+fn walk(library: &mut Library, text: &[u8], timeline: &Timeline, counts: &mut [u32; 5]) {
+    let sheet = second::read(text).expect("an accepted sheet");
+    let mut machine = Machine::start(&sheet);
     let mut now = held(&timeline.start);
     for change in &timeline.changes {
-        let objects = |library: &mut Library, steps| {
-            library.run(text, steps).expect("an accepted sheet").objects
-        };
-        let before = objects(library, change.number - 1);
-        let made = (objects(library, change.number) > before).then_some(before);
+        machine.run(change.number - 1);
+        let next = next(&machine);
         assert_eq!(now, reported(library, text, change.number - 1));
         for gain in &change.gains {
-            assert!(
-                is_allowed(gain, made, &now),
-                "step {}: {gain:?}",
-                change.number
-            );
-            let way = match gain.way {
-                Some(Way::Created(_)) => 0,
-                Some(Way::Called(_)) => 1,
-                _ => 2,
-            };
-            counts[way] += 1;
+            let step = change.number;
+            assert!(is_allowed(gain, &next, &now), "step {step}: {gain:?}");
+            counts[match gain.way {
+                Some(Way::Created) => 0,
+                Some(Way::WasCreated) => 1,
+                Some(Way::CreatedWith(_)) => 2,
+                Some(Way::Called(_)) => 3,
+                _ => 4,
+            }] += 1;
         }
         for (holder, resource) in &change.losses {
             assert!(now.get_mut(holder).expect("a holder").remove(resource));
@@ -109,7 +127,7 @@ fn printed_walk(printed: &str, start: Held) -> Held {
     let ways = [
         "created it",
         "was created",
-        "was created with it",
+        "was created with it by ",
         "was called with it by ",
         "was returned it by ",
     ];
@@ -144,7 +162,7 @@ fn printed_walk(printed: &str, start: Held) -> Held {
 fn a_timeline_s_last_sets_are_the_report_s_and_each_gain_is_one_of_three() {
     let mut library = Library::new();
     let (mut seen, mut index) = (0, 0);
-    let mut counts = [0; 3];
+    let mut counts = [0; 5];
     while seen < 1_000 {
         let text = match index % 4 {
             0 => generator::device(11, index),
