@@ -7,7 +7,7 @@ use crate::json;
 use crate::line::lines;
 use crate::style::Style;
 use crate::text::Text;
-use crate::words::thousands;
+use crate::words::counted;
 use lexondar::{Error, Lack, Refusal};
 
 /// The formats.
@@ -62,7 +62,7 @@ impl Judged<'_> {
         match self.answer {
             Ok(steps) => {
                 let steps = steps.map_or(String::new(), |steps| {
-                    format!(", at most {} steps", thousands(steps.into()))
+                    format!(", at most {}", counted(steps as usize, "step"))
                 });
                 let accepted = style.good("accepted");
                 format!("{}: {accepted}{steps}\n", plain(&self.text.name))

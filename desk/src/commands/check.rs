@@ -11,6 +11,8 @@ use crate::json;
 use crate::library::Library;
 use crate::progress::Progress;
 use crate::text::{Files, Text, STDIN};
+use std::ffi::OsStr;
+use std::io::{self, Write};
 
 pub const COMMAND: Command = Command {
     word: "check",
@@ -124,7 +126,7 @@ impl Check {
         }
     }
 
-    fn file(&mut self, desk: &mut Desk, file: &std::ffi::OsStr) {
+    fn file(&mut self, desk: &mut Desk, file: &OsStr) {
         self.progress.show(&self.counts);
         match Text::read(file) {
             Err(unread) => {
@@ -171,7 +173,7 @@ impl Check {
         desk.flush();
         self.progress.clear();
         if files > 1 && !self.quiet {
-            eprintln!("{}", self.counts);
+            let _ = writeln!(io::stderr(), "{}", self.counts);
         }
     }
 }

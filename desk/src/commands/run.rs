@@ -7,7 +7,7 @@ use crate::follow::forms;
 use crate::line::lines;
 use crate::reader::read;
 use crate::reading::Reading;
-use crate::words::{counted, kind, thousands};
+use crate::words::{counted, kind};
 use lexondar::{Outcome, Run};
 
 pub const COMMAND: Command = Command {
@@ -48,11 +48,7 @@ pub fn ended(run: &Run) -> String {
         Outcome::StoreFull => "store full",
         Outcome::StackFull => "stack full",
     };
-    let steps = match run.steps {
-        1 => "1 step".into(),
-        steps => format!("{} steps", thousands(steps.into())),
-    };
-    format!("{outcome} after {steps}")
+    format!("{outcome} after {}", counted(run.steps as usize, "step"))
 }
 
 /// How a run ended, with why it did not go on.

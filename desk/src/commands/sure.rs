@@ -3,7 +3,7 @@
 use super::Command;
 use crate::args::{Given, Usage};
 use crate::desk::Desk;
-use crate::words::thousands;
+use crate::words::counted;
 
 pub const COMMAND: Command = Command {
     word: "sure",
@@ -20,7 +20,7 @@ fn run(given: &Given, desk: &mut Desk) -> Result<(), Usage> {
     let [file] = given.exactly("a file")?;
     if let Some(text) = desk.text(file) {
         match desk.library.bound(&text.bytes) {
-            Ok(steps) => desk.put(&format!("at most {} steps\n", thousands(steps.into()))),
+            Ok(steps) => desk.put(&format!("at most {}\n", counted(steps as usize, "step"))),
             Err(error) => desk.refused(&text, error),
         }
     }

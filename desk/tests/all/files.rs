@@ -184,6 +184,20 @@ fn a_full_disk_is_one_line_and_status_2() {
     assert_eq!((said.err.lines().count(), said.status), (1, 2));
 }
 
+/// Nothing is lost where standard error takes nothing.
+#[test]
+fn a_full_standard_error_changes_no_answer() {
+    let full = File::options().write(true).open("/dev/full");
+    let output = desk(&["check", "clerk.sheet", "nowhere.sheet"])
+        .stderr(full.expect("a device"))
+        .output();
+    let said: Said = output.expect("the command ends").into();
+    assert_eq!(
+        (said.out.as_str(), said.status),
+        ("clerk.sheet: accepted\n", 2)
+    );
+}
+
 /// The blocks are what the program prints, as they are stored.
 #[test]
 fn blocks_are_the_program_s() {
