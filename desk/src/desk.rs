@@ -1,11 +1,11 @@
 //! What the commands share: the library, the two outputs, and the exit status.
 
 use crate::explain::explain;
-use crate::format::{line_of, refused};
+use crate::format::refused;
 use crate::library::Library;
 use crate::style::Style;
 use crate::text::{Text, Unread};
-use lexondar::Error;
+use lexondar::{Error, Reason, Refusal};
 use std::ffi::OsStr;
 use std::io::{self, BufWriter, IsTerminal, Stdout, Write};
 
@@ -84,8 +84,9 @@ impl Desk {
     /// that standard output has answers alone. Where the sheet is in order and
     /// the question is not, a note says what could be asked.
     pub fn no_answer(&mut self, text: &Text, error: Error, note: Option<String>) {
-        let mut finding = explain(&mut self.library, text, error);
-        finding.notes.extend(note.filter(|_| line_of(error) == 0));
+        let asked = error.refusal().is_some_and(is_of_question);
+        let finding = explain(&mut self.library, text, error);
+        let finding = finding.noted(note.filter(|_| asked));
         self.flush();
         let words = refused(Style::of(&io::stderr()), text, error, &finding);
         let _ = io::stderr().write_all(words.as_bytes());
@@ -127,4 +128,11 @@ impl Desk {
     pub fn is_seen(&self) -> bool {
         io::stdout().is_terminal()
     }
+}
+
+/// Whether the sheet is in order, and a number that was asked about is not
+/// there.
+fn is_of_question(refusal: Refusal) -> bool {
+    let numbers = matches!(refusal.reason, Reason::NotDefined | Reason::NoHolder);
+    numbers && refusal.line == 0
 }

@@ -58,11 +58,12 @@ pub struct Case<'a> {
 impl<'a> Case<'a> {
     /// Takes the lines apart. Those before the line at fault are in a sheet's
     /// order; that line is too, unless it is torn; and so are all if the
-    /// reading was passed.
+    /// reading was passed. Of a text that is too long none was read.
     pub fn of(text: &'a [u8], refusal: Refusal) -> Case<'a> {
         let lines = lines(text);
         let line = refusal.line as usize;
         let sound = match refusal.reason {
+            Reason::BufferTooShort | Reason::TextTooLong => 0,
             Reason::Malformed => line.saturating_sub(1),
             Reason::OutOfLimit
             | Reason::NotAscending

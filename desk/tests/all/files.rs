@@ -140,6 +140,32 @@ fn a_file_that_is_too_long_is_told_its_length() {
     assert_eq!(said.out.lines().last(), Some(note));
 }
 
+/// Of a text that the library did not read, nothing is told but its length.
+#[test]
+fn a_text_that_is_too_long_is_not_read() {
+    let clerk = fs::read(format!("{ROOT}/examples/clerk.sheet")).expect("P");
+    let long = [&clerk[..], &b"copy=0\n".repeat(9_400)].concat();
+    let refusal = "<stdin>: refusal 2 (long sheet): the text is over 65,535 bytes\n  \
+                   = it has 65,967 bytes, 432 too many\n";
+    let all: [&[&str]; 5] = [
+        &["form", "-", "0"],
+        &["fit", "-", "0", "1"],
+        &["run", "-"],
+        &["holders", "-", "--holder", "1"],
+        &["timeline", "-"],
+    ];
+    for words in all {
+        let said = fed(words, &long);
+        assert_eq!(
+            (said.out.as_str(), said.err.as_str()),
+            ("", refusal),
+            "{words:?}"
+        );
+    }
+    let listed = fed(&["list", "-"], &long).out;
+    assert_eq!(listed.lines().next(), Some("   1 | types=3"));
+}
+
 /// A device never ends, and no more of it is read than is needed.
 #[test]
 fn an_endless_file_is_refused_as_too_long() {
