@@ -1,4 +1,6 @@
 // Who holds what, in the state that a run left in the work buffer: what a holder can still use is marked, frame by frame.
+#![tactic(auto)]
+
 ghost use Rattle.std.specs.Prelude.{◌≡◌, ◌<◌, ◌≤◌, length};
 ghost use Rattle.authority_rules.specs.Authority.{is_resource, frame_holder};
 ghost use Rattle.table.specs.Layout.{work_size};

@@ -1,4 +1,6 @@
 // Marks on numbers below 256, in the work buffer's spare room: which objects a holder can reach.
+#![tactic(auto)]
+
 ghost use Rattle.std.specs.Prelude.{◌≡◌, ◌<◌, ◌+◌, ◌≤◌, [], ◌∷◌, eqb, length};
 ghost use Rattle.table.specs.Layout.{state_end, code_notes_at, work_size};
 ghost use Rattle.table.specs.View.{cell};

@@ -1,5 +1,7 @@
 // The authority question, for a list of holders and for one: a text is judged, an accepted sheet is run within a budget, and what
 // the holders have in the state that the run leaves is written to the result buffer.
+#![tactic(auto)]
+
 ghost use Rattle.std.specs.Prelude.{◌≡◌, ◌≤◌, min, length};
 ghost use Rattle.machine_rules.specs.Steps.{run};
 ghost use Rattle.authority_rules.specs.Group.{group_in, group_held};

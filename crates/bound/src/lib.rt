@@ -1,5 +1,7 @@
 // Sheets that are sure to finish, over the table: circular calls are looked for line by line, and the most steps that main can need are
 // worked out name by name.
+#![tactic(auto)]
+
 ghost use Rattle.std.specs.Prelude.{◌≡◌, ◌≤◌, length};
 ghost use Rattle.sheet_rules.specs.Sheet.{called_name};
 ghost use Rattle.table.specs.Layout.{work_size};
@@ -16,7 +18,7 @@ pub mod amounts;
 pub mod calls;
 
 // The method that an instruction calls, if it is a call.
-#[derive(Drop)]
+#[derive(Clone, Copy)]
 pub enum Called {
     Method { name: u16 },
     Nothing,

@@ -1,4 +1,6 @@
 // The lines of a body, judged over the table one after another.
+#![tactic(auto)]
+
 ghost use Rattle.std.specs.Prelude.{◌≡◌, ◌≤◌, ◌+◌};
 ghost use Rattle.table.specs.View.{instr_in};
 ghost use Rattle.table.specs.Whole.{Whole};
@@ -11,7 +13,7 @@ use sheet_rules::Reason;
 use table::rows::wide;
 
 // A walk over lines: the line after them, or the first at fault with the reason.
-#[derive(Drop)]
+#[derive(Clone, Copy)]
 pub enum Walked {
     On { line: u32 },
     Stopped { reason: Reason, line: u32 },

@@ -1,5 +1,7 @@
 // The fit table: whether row a fits row b, for every two rows of the sheet in the work buffer. Each pair of rows is settled once,
 // in both directions, by one walk along the members of both.
+#![tactic(auto)]
+
 ghost use Rattle.std.specs.Prelude.{◌≡◌, ◌≤◌, ◌<◌, ◌+◌, T, length};
 ghost use Rattle.sheet_rules.specs.RowLines.{name_of, mentions_below};
 ghost use Rattle.sheet_rules.specs.WellFormed.{WellFormedRow};

@@ -1,4 +1,6 @@
 // Fit's answer on two rows, by one walk along both, with the fit table's word on the rows that their members mention.
+#![tactic(auto)]
+
 ghost use Rattle.std.proofs.Math.Option.{some};
 ghost use Rattle.std.specs.Prelude.{◌≡◌};
 ghost use Rattle.table.specs.Whole.{Whole};

@@ -1,4 +1,6 @@
 // The fit question: whether row a of a sheet fits row b, what is lacking if not, and how many members of row a the walk passed.
+#![tactic(auto)]
+
 ghost use Rattle.std.specs.Prelude.{◌≡◌, ◌≤◌, length};
 ghost use Rattle.type_rules.specs.FitQuestion.{fit_told, told_refused};
 ghost use Rattle.table.specs.Layout.{work_size};

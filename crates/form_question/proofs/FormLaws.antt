@@ -47,14 +47,14 @@ module _ (text : Bor (List ℕ)) (f : ℕ) {w w' : List ℕ} {reply : FormReply}
   end_within =
       omega (arith, ap (λ (r : FormResult). r.start) told, ap (λ (r : FormResult). r.length) told, asked_within text.now f w)
 
-  pub form_asked : (part : Bor (List ℕ)) → part.ref_ptr.0 ≡ text.ptr.0 → part.ref_ptr.1 ≡ text.ptr.1 + x.start
+  pub form_asked : (part : Bor (List ℕ)) → part.ref_ptr.0 ≡ text.ref_ptr.0 → part.ref_ptr.1 ≡ text.ref_ptr.1 + x.start
       → part.now ≡ take (x.start + x.length - x.start) (drop x.start text.now) → FormAsked text f w w' x.refusal x.line part
   form_asked part b p t =
       record {
         given =
             record {
               block = b;
-              place = p ∙ ap (λ (r : FormResult). text.ptr.1 + r.start) told;
+              place = p ∙ ap (λ (r : FormResult). text.ref_ptr.1 + r.start) told;
               bytes =
                   t
                   ∙ ap (λ (n : ℕ). take n (drop x.start text.now)) (let z : x.start + x.length - x.start ≡ x.length = omega arith in z)

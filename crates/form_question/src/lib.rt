@@ -1,4 +1,6 @@
 // One form's lines: where they stand in the text, and the lines themselves as a part of the text.
+#![tactic(auto)]
+
 ghost use Rattle.std.specs.Prelude.{◌≡◌, ◌≤◌, length};
 ghost use Rattle.sheet_rules.specs.Stretch.{form_in, form_reply};
 ghost use Rattle.table.specs.Layout.{work_size};

@@ -1,4 +1,6 @@
 // The forms of a sheet, read into the table.
+#![tactic(auto)]
+
 ghost use Rattle.std.specs.Prelude.{◌≡◌, ◌≤◌, ◌<◌, ◌+◌};
 ghost use Rattle.line_reader.specs.Told.{Room};
 ghost use Rattle.table.specs.Ready.{Ready};
@@ -12,7 +14,7 @@ use sheet_rules::Place;
 use table::rows::wide;
 
 // Which form is read: form f, in a sheet of `rows` rows and `forms` forms.
-#[derive(Drop)]
+#[derive(Clone, Copy)]
 pub struct FormAt {
     pub f: usize,
     pub rows: u16,

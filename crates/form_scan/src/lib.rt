@@ -1,4 +1,6 @@
 // The lines of a text at which a form begins or the forms end, found in one scan of its bytes.
+#![tactic(auto)]
+
 ghost use Rattle.std.specs.Prelude.{◌≡◌, ◌+◌, ◌≤◌, length, drop};
 ghost use Rattle.sheet_rules.specs.Stretch.{begins as begins_rule, form_border};
 ghost use Rattle.form_scan.specs.Borders.{line_length, border_place};

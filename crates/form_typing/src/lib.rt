@@ -1,4 +1,6 @@
 // The lines of a form, judged over the table: its heading, its `keep` lines, and its parts.
+#![tactic(auto)]
+
 ghost use Rattle.std.specs.Prelude.{◌≡◌, not, ◌&&◌, [], ◌∷◌, ◌+◌, ◌≤◌, ◌<◌, length};
 ghost use Rattle.sheet_rules.specs.Sheet.{row_at, form_at};
 ghost use Rattle.type_rules.specs.SlotRows.{members_at};

@@ -1,4 +1,6 @@
 // The judgement of an instruction line: its place, its name, and what it refers to.
+#![tactic(auto)]
+
 ghost use Rattle.std.specs.Prelude.{◌≡◌, ◌≤◌, drop};
 ghost use Rattle.sheet_rules.specs.declared.Operation.{Operation as OperationRule};
 ghost use Rattle.sheet_rules.specs.Keys.{operation_of};

@@ -1,4 +1,6 @@
 // Instruction lines, read into the pool of the table.
+#![tactic(auto)]
+
 ghost use Rattle.std.specs.Prelude.{◌≡◌, ◌≤◌, ◌<◌, ◌+◌, length};
 ghost use Rattle.table.specs.Layout.{work_size};
 ghost use Rattle.table.specs.View.{operation_code, instr_from};

@@ -1,4 +1,6 @@
 // One instruction, judged over the table: the members that it names are there, and its values fit where they go.
+#![tactic(auto)]
+
 ghost use Rattle.std.specs.Prelude.{◌≡◌, [], ◌∷◌, ◌≤◌, get_or};
 ghost use Rattle.type_rules.specs.SlotRows.{method_in, field_in, members_at, own_field};
 ghost use Rattle.table.specs.View.{instr_in, sheet_in};
@@ -12,21 +14,21 @@ use table::instrs::Instruction;
 use table::rows::wide;
 
 // A row, where there is one: a field's, the own object's, a declared result's.
-#[derive(Drop)]
+#[derive(Clone, Copy)]
 pub enum FoundRow {
     Row { row: u16 },
     Missing,
 }
 
 // A method, where there is one.
-#[derive(Drop)]
+#[derive(Clone, Copy)]
 pub enum FoundMethod {
     Method { argument: u16, result: u16 },
     Missing,
 }
 
 // A judged instruction: the row of the slot that it fills, or the refusal.
-#[derive(Drop)]
+#[derive(Clone, Copy)]
 pub enum InstrJudged {
     Good { row: u16 },
     Refused { reason: Reason },

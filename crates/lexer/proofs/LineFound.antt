@@ -77,6 +77,7 @@ numbers_open (b ∷ bs) l ns p i = go (turn_of p b) (turn_of-Open p b l.0) (λ n
         either true e = e
         either false e = refl
     go Turn.Torn open_torn h = refl
+    go (End _) x4 h = elim x4 [ ]
 
 Lacks-drop : (c n : ℕ) (bs : List ℕ) → Lacks c bs → Lacks c (drop n bs)
 Lacks-drop c zero bs l = l

@@ -120,6 +120,10 @@ Scanned-end ns m (Digits v) (b ∷ bs) (some_digits d ne e) f i rest =
     (subst (λ (l : List ℕ). T (is_decimal l)) (sym (append-nil (b ∷ bs))) (digits_decimal v b bs d ne e f)) tt)
     (with_list ns v m ∙ ap (λ (n : ℕ). list_of ns ++ (n ∷ [])) (sym e ∙ ap value_of (sym (append-nil (b ∷ bs)))))
     refl (count_one ns v m)
+Scanned-end ns m Empty (b ∷ bs) x4 f i rest = elim x4 [ ]
+Scanned-end ns m Zero [] x4 f i rest = elim x4 [ ]
+Scanned-end ns m Zero (b ∷ (_ ∷ _)) x9 f i rest = elim x9 [ ]
+Scanned-end ns m (Digits v) [] x5 f i rest = elim x5 [ ]
 
 -- all that is known of the bytes of a line after a given one
 abbrev Later : List ℕ → List ℕ → Type 0
@@ -177,6 +181,10 @@ module _ (q rest : List ℕ) (later : Later q rest) (ns : Numbers) (m : ns.count
       Scanned-comma v (b ∷ (bs ++ []))
       (subst (λ (l : List ℕ). T (is_decimal l)) (sym (append-nil (b ∷ bs))) (digits_decimal v b bs d ne e f))
       (ap value_of (append-nil (b ∷ bs)) ∙ e)
+  at_comma Empty (b ∷ bs) x4 f = elim x4 [ ]
+  at_comma Zero [] x4 f = elim x4 [ ]
+  at_comma Zero (b ∷ (_ ∷ _)) x9 f = elim x9 [ ]
+  at_comma (Digits v) [] x5 f = elim x5 [ ]
 
   at_digit : (b : ℕ) → digit0 ≤ b → b ≤ digit9 → (p : Part) (w : List ℕ) → Written p w → PartFits p → Goal p w b (turn_of p b)
   unfolding Goal more
@@ -207,6 +215,10 @@ module _ (q rest : List ℕ) (later : Later q rest) (ns : Numbers) (m : ns.count
           Scanned-torn b (λ z. omega arith) (a ∷ cs)
           (too_large (a ∷ (cs ++ (b ∷ []))) (split_on comma q)
           (subst (λ (n : ℕ). decimal_limit < n) (sym value) (leb-false _ _ t)))
+  at_digit b lo hi Empty (a ∷ cs) x4 f = elim x4 [ ]
+  at_digit b lo hi Zero [] x4 f = elim x4 [ ]
+  at_digit b lo hi Zero (a ∷ (_ ∷ _)) x9 f = elim x9 [ ]
+  at_digit b lo hi (Digits v) [] x5 f = elim x5 [ ]
 
   at_other : (b : ℕ) → (b ≡ comma → ⊥) → (b ≡ newline → ⊥) → (T (leb digit0 b && leb b digit9) → ⊥) → (p : Part) (w : List ℕ) → Goal p w b (turn_of p b)
   unfolding Goal more

@@ -6,7 +6,7 @@ ghost use Rattle.lexer.specs.Scan.{facts_from, facts_of, place_of_code};
 use sheet_rules::{MemberKind, Operation, Place};
 
 // A key: where its line may stand, and the fewest and most numbers that follow it.
-#[derive(Drop)]
+#[derive(Clone, Copy)]
 pub struct KeyFacts {
     pub place: Place,
     pub fewest: u16,

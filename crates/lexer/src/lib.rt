@@ -1,4 +1,6 @@
 // One line of a text, from a place on: its key and its numbers, in one pass over its bytes.
+#![tactic(auto)]
+
 ghost use Rattle.std.specs.Prelude.{◌≡◌, ◌≤◌, ◌<◌, length, drop};
 ghost use Rattle.lexer.specs.Scan.{end_turn, digit_turn, first_turn, turn_of, no_numbers, with_number, at_place, numbers_scan, key_scan, line_at};
 
@@ -7,7 +9,7 @@ use sheet_rules::Place;
 mod keys;
 
 // The number in progress: no digit yet, the number 0, or digits that do not begin with 0.
-#[derive(Drop)]
+#[derive(Clone, Copy)]
 pub enum Part {
     Empty,
     Zero,
@@ -15,7 +17,7 @@ pub enum Part {
 }
 
 // What a byte does to the numbers of a line.
-#[derive(Drop)]
+#[derive(Clone, Copy)]
 pub enum Turn {
     More { part: Part },
     Comma { value: u16 },
@@ -24,7 +26,7 @@ pub enum Turn {
 }
 
 // The numbers of a line, nine at the most.
-#[derive(Drop)]
+#[derive(Clone, Copy)]
 pub struct Numbers {
     pub count: u16,
     pub n0: u16,
@@ -39,21 +41,21 @@ pub struct Numbers {
 }
 
 // The numbers up to the end of a line, and the place after it.
-#[derive(Drop)]
+#[derive(Clone, Copy)]
 pub enum NumbersRead {
     Numbers { numbers: Numbers, next: usize },
     Torn,
 }
 
 // The letters up to an equal sign, as a number, and the place after it.
-#[derive(Drop)]
+#[derive(Clone, Copy)]
 pub enum KeyRead {
     Letters { code: u64, next: usize },
     Torn,
 }
 
 // A line in the sheet's shape, with as many numbers as its key asks for: where it may stand, and where in the text it ends.
-#[derive(Drop)]
+#[derive(Clone, Copy)]
 pub enum LineRead {
     Line {
         place: Place,

@@ -1,4 +1,6 @@
 // The library that a terminal links: the questions with their answers in numbers, under plain names.
+#![tactic(auto)]
+
 ghost use Rattle.sheet_rules.specs.declared.FormReply.{FormReply as FormReplied};
 ghost use Rattle.sheet_rules.specs.declared.Reason.TheVariants.{BufferTooShort};
 ghost use Rattle.sheet_rules.specs.declared.Verdict.{Verdict as VerdictGiven};

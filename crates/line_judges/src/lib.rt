@@ -1,4 +1,6 @@
 // The judgement of one line by its place and numbers, in the order of the refusals' numbers.
+#![tactic(auto)]
+
 ghost use Rattle.std.specs.Prelude.{◌≡◌, ℕ, ◌≤◌, ◌<◌, List, true};
 ghost use Rattle.sheet_rules.specs.Keys.{place_number, same_place, member_kind};
 ghost use Rattle.sheet_rules.specs.Reader.{good, count_line, existing_line};
@@ -15,7 +17,7 @@ use lexer::Numbers;
 use sheet_rules::{MemberKind, Place, Reason};
 
 // A line, judged by its place and numbers.
-#[derive(Drop)]
+#[derive(Clone, Copy)]
 pub enum LineJudged {
     Good,
     Refused { reason: Reason },

@@ -1,4 +1,6 @@
 // One line of a sheet, read and judged by where the reader stands.
+#![tactic(auto)]
+
 ghost use Rattle.std.specs.Prelude.{◌≡◌, ◌<◌, drop};
 ghost use Rattle.lexer.specs.Scan.{Fitting};
 ghost use Rattle.sheet_rules.specs.Lines.{lines_of};
@@ -9,7 +11,7 @@ use line_judges::LineJudged;
 use sheet_rules::{Place, Reason};
 
 // Where reading stands: a place in the text, the number of the line there, and how many instructions were read.
-#[derive(Drop)]
+#[derive(Clone, Copy)]
 pub struct Cursor {
     pub at: usize,
     pub line: u32,
@@ -17,7 +19,7 @@ pub struct Cursor {
 }
 
 // A line of the wanted place, judged: its key by its place, its numbers and where reading then stands, or the refusal.
-#[derive(Drop)]
+#[derive(Clone, Copy)]
 pub enum LineTaken {
     Line {
         place: Place,
@@ -31,7 +33,7 @@ pub enum LineTaken {
 }
 
 // How reading some lines goes on: where it then stands, or the refusal.
-#[derive(Drop)]
+#[derive(Clone, Copy)]
 pub enum Progress {
     Moved { to: Cursor },
     Refused { reason: Reason, line: u32 },

@@ -1,4 +1,6 @@
 // Printed lines, put byte by byte into a buffer.
+#![tactic(auto)]
+
 ghost use Rattle.std.specs.Prelude.{◌≡◌, ◌+◌, ◌*◌, ◌<◌, ◌≤◌, [], ◌∷◌, length, take, drop};
 ghost use Rattle.sheet_rules.specs.Decimals.{decimal, further, line_text};
 ghost use Rattle.line_writer.specs.Put.{Put};

@@ -30,11 +30,13 @@ module _ {A : Type 0} (test : A → Bool) where
   unfolding any
   In-any (y ∷ xs) (here e) t = or_left (test y) (any test xs) (subst (λ (z : A). T (test z)) e t)
   In-any (y ∷ xs) (there i) t = or_right (test y) (any test xs) (In-any xs i t)
+  In-any [] x3 t = elim x3 [ ]
 
   pub all-In : {x : A} (xs : List A) → T (all test xs) → In x xs → T (test x)
   unfolding all
   all-In (y ∷ xs) t (here e) = subst (λ (z : A). T (test z)) (sym e) (and_left (test y) (all test xs) t)
   all-In (y ∷ xs) t (there i) = all-In xs (and_right (test y) (all test xs) t) i
+  all-In [] t x3 = elim x3 [ ]
 
   pub In-all : (xs : List A) → ((x : A) → In x xs → T (test x)) → T (all test xs)
   unfolding all

@@ -27,6 +27,7 @@ pub In-contains : (xs : List ℕ) (b : ℕ) → In b xs → T (contains xs b)
 unfolding contains
 In-contains (x ∷ xs) b (here e) = or_left (eqb x b) (contains xs b) (true→T (eqb x b) (eq-eqb x b (sym e)))
 In-contains (x ∷ xs) b (there i) = or_right (eqb x b) (contains xs b) (In-contains xs b i)
+In-contains [] b x' = elim x' [ ]
 
 contains-any : (xs : List ℕ) (b : ℕ) → contains xs b ≡ any (λ x. eqb x b) xs
 unfolding contains any

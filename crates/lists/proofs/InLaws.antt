@@ -11,6 +11,7 @@ module _ {A : Type 0} where
   pub In-left : {x : A} (xs ys : List A) → In x xs → In x (xs ++ ys)
   In-left (y ∷ xs) ys (here e) = here e
   In-left (y ∷ xs) ys (there i) = there (In-left xs ys i)
+  In-left [] ys x'' = elim x'' [ ]
 
   pub In-right : {x : A} (xs ys : List A) → In x ys → In x (xs ++ ys)
   In-right [] ys i = i

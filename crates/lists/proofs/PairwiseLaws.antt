@@ -29,9 +29,13 @@ module _ {A B : Type 0} where
   Pairwise-at [] [] i d e none h = absurd (not-suc-le-zero h)
   Pairwise-at (x ∷ xs) (y ∷ ys) zero d e (pair r p) h = r
   Pairwise-at (x ∷ xs) (y ∷ ys) (suc i) d e (pair r p) h = Pairwise-at xs ys i d e p (le_of_suc-le-suc h)
+  Pairwise-at {R = R} [] (y ∷ ys) i d e x4 h = elim x4 [ ]
+  Pairwise-at {R = R} (x ∷ xs) [] i d e x5 h = elim x5 [ ]
 
   -- an element replaced by one that is related too
   pub Pairwise-set : {R : A → B → Type 0} (xs : List A) (ys : List B) (i : ℕ) (v : A) (e : B) → Pairwise R xs ys → R v (get_or ys i e) → Pairwise R (set xs i v) ys
   Pairwise-set [] [] i v e none q = none
   Pairwise-set (x ∷ xs) (y ∷ ys) zero v e (pair r p) q = pair q p
   Pairwise-set (x ∷ xs) (y ∷ ys) (suc i) v e (pair r p) q = pair r (Pairwise-set xs ys i v e p q)
+  Pairwise-set {R = R} [] (y ∷ ys) i v e x4 q = elim x4 [ ]
+  Pairwise-set {R = R} (x ∷ xs) [] i v e x5 q = elim x5 [ ]

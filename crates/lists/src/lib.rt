@@ -1,1 +1,2 @@
 // Facts about lists and tests that mention nothing of ours. No functions.
+#![tactic(auto)]

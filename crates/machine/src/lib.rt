@@ -1,4 +1,6 @@
 // The bounded run: the machine steps until it is finished, its budget is spent, or the store or the stack is full.
+#![tactic(auto)]
+
 ghost use Rattle.std.specs.Prelude.{◌≡◌, pred, ◌≤◌, ◌<◌, length};
 ghost use Rattle.sheet_rules.specs.Sheet.{new, call};
 ghost use Rattle.machine_rules.specs.State.{last_of};
@@ -19,7 +21,7 @@ use table::instrs::Instruction;
 use table::rows::wide;
 
 // One step taken, or why there is none.
-#[derive(Drop)]
+#[derive(Clone, Copy)]
 pub enum Move {
     Taken { top: Top, tally: Tally },
     Finished,
@@ -29,7 +31,7 @@ pub enum Move {
 }
 
 // How a run halted: why, where the frame in hand stands, and the counts.
-#[derive(Drop)]
+#[derive(Clone, Copy)]
 pub struct Halt {
     pub outcome: Outcome,
     pub top: Top,

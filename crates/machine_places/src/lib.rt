@@ -1,4 +1,6 @@
 // The table by form and name, filled once before a run: where the body of each method stands, and the place of each field.
+#![tactic(auto)]
+
 ghost use Rattle.std.specs.Prelude.{◌≡◌, ◌≤◌, ◌<◌, length};
 ghost use Rattle.type_rules.specs.SlotRows.{members_at};
 ghost use Rattle.table.specs.Layout.{place_address, work_size};

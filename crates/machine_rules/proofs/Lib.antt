@@ -11,7 +11,3 @@ pub mod StartLaws
 pub mod SoundLaws
 pub mod BoundsLaws
 pub mod ReadyLaws
-pub mod Counting
-pub mod Calling
-pub mod Lent
-pub mod Lending

@@ -1,11 +1,13 @@
 // The bounded machine. The rules are in specs/; these are the types that they share with the code, and how the tally is kept up.
+#![tactic(auto)]
+
 ghost use Rattle.std.specs.Prelude.{◌≡◌, ◌<◌};
 ghost use Rattle.machine_rules.specs.Steps.{tally, start_tally, created, called, returned, worked};
 
 use sheet_rules::Reason;
 
 // How a run ended, in the order of the paper's numbers 0 to 3.
-#[derive(Drop)]
+#[derive(Clone, Copy)]
 pub enum Outcome {
     Done,
     Spent,
@@ -15,7 +17,7 @@ pub enum Outcome {
 
 // The counts that a run keeps up: steps taken, objects made, frames on the stack. They are words, so that each stays in a
 // register of its own.
-#[derive(Drop)]
+#[derive(Clone, Copy)]
 pub struct Tally {
     pub steps: usize,
     pub objects: usize,
@@ -162,7 +164,7 @@ fn after_work(steps: usize, objects: usize, frames: usize) -> Tally
 }
 
 // What a run answers; the value of an unfinished run is 65,535.
-#[derive(Drop)]
+#[derive(Clone, Copy)]
 pub struct RunAnswer {
     pub outcome: Outcome,
     pub steps: u32,
@@ -171,7 +173,7 @@ pub struct RunAnswer {
 }
 
 // What the run question answers: the run's answer, or a refusal with its line.
-#[derive(Drop)]
+#[derive(Clone, Copy)]
 pub enum RunReply {
     Ran { answer: RunAnswer },
     Refused { reason: Reason, line: u32 },

@@ -1,5 +1,7 @@
 // The machine's state in the work buffer: what it holds is in specs/Held. All reads and writes of objects and frames go through
 // here, and none of them is tested: the numbers are known to be in range.
+#![tactic(auto)]
+
 ghost use Rattle.std.specs.Prelude.{◌≡◌, ◌≤◌, ◌<◌, length, set};
 ghost use Rattle.table.specs.Layout.{object_address, frame_address, work_size, slot_address, kept_address, field_address};
 ghost use Rattle.table.specs.View.{cell as cell_of};
@@ -9,7 +11,7 @@ use table::rows::wide;
 
 // Where the frame in hand stands: its receiver's number plus one (0 in main), how many of its slots are filled, the place of its
 // next instruction in the pool, and the place where its code ends.
-#[derive(Drop)]
+#[derive(Clone, Copy)]
 pub struct Top {
     pub own: usize,
     pub filled: usize,

@@ -1,5 +1,7 @@
 // One step of the machine, in the work buffer: a function for each instruction, and the return. None of them tests what typing
 // has settled: that slots are filled, objects made, and members there.
+#![tactic(auto)]
+
 ghost use Rattle.std.specs.Prelude.{◌≡◌, pred, ◌≤◌, ◌<◌, length, set};
 ghost use Rattle.sheet_rules.specs.Sheet.{copy, get, put};
 ghost use Rattle.machine_rules.specs.Steps.{worked};

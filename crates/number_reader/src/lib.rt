@@ -1,4 +1,6 @@
 // Lines of one number each, of something that is there, read into the table: the rows that a form keeps, and the devices.
+#![tactic(auto)]
+
 ghost use Rattle.std.specs.Prelude.{◌<◌, ◌≤◌, ◌+◌, length};
 ghost use Rattle.number_reader.specs.Reads.{Existing, NumberRead, NumbersRead, KeepsRead, DevicesRead};
 ghost use Rattle.line_reader.specs.Told.{Room};
@@ -9,7 +11,7 @@ use sheet_rules::Place;
 use table::rows::wide;
 
 // A list of such lines: their place, how many of the things there are, where in the buffer the first number goes, and how many lines.
-#[derive(Drop)]
+#[derive(Clone, Copy)]
 pub struct Listed {
     pub wanted: Place,
     pub bound: u16,

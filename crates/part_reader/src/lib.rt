@@ -1,4 +1,6 @@
 // The parts of forms, read into the table: a field's `init`, or a method's body with its instructions.
+#![tactic(auto)]
+
 ghost use Rattle.std.specs.Prelude.{◌≤◌, ◌<◌, ◌+◌, length};
 ghost use Rattle.sheet_rules.specs.FormLines.{read_part};
 ghost use Rattle.line_reader.specs.Told.{Room};
@@ -10,7 +12,7 @@ use sheet_rules::{Member, Place};
 use table::rows::wide;
 
 // Which part is read: part j of form f, which keeps `keeps` values, in a sheet of `forms` forms.
-#[derive(Drop)]
+#[derive(Clone, Copy)]
 pub struct PartAt {
     pub f: usize,
     pub j: usize,

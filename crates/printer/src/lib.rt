@@ -1,4 +1,6 @@
 // What the program prints, put into a buffer: a holder's line.
+#![tactic(auto)]
+
 ghost use Rattle.std.specs.Prelude.{◌+◌, ◌*◌, ◌≤◌, length};
 ghost use Rattle.authority_rules.specs.Printed.{holder_line};
 ghost use Rattle.line_writer.specs.Put.{Put};

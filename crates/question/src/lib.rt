@@ -1,4 +1,6 @@
 // What every question promises is in specs/Asked; here is how it tests its buffers, and clears the work buffer before it returns.
+#![tactic(auto)]
+
 ghost use Rattle.std.specs.Prelude.{◌≡◌, ◌&&◌, ◌≤◌, leb, length};
 ghost use Rattle.question.specs.Cleared.{cleared};
 ghost use Rattle.table.specs.Layout.{work_size};

@@ -1,5 +1,7 @@
 // A sheet's text, read into the table of the work buffer. What the table then holds is `sheet_in` of the buffer (table, View);
 // the crates above see that and the table's accessors, and never the bytes.
+#![tactic(auto)]
+
 ghost use Rattle.std.specs.Prelude.{◌≡◌, ◌≤◌, ◌<◌, length};
 ghost use Rattle.sheet_rules.specs.Reading.{read_sheet};
 ghost use Rattle.line_reader.specs.Told.{Room};

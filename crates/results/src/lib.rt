@@ -1,5 +1,7 @@
 // The questions' replies in numbers, as a caller in C has them. Every result begins with the same four: a refusal's number and line,
 // and what is lacking, with the name if it is a member.
+#![tactic(auto)]
+
 ghost use Rattle.std.specs.Prelude.{◌≡◌};
 ghost use Rattle.results.specs.Results.{answer_result, fit_result, verdict_result, run_result, authority_result, counted_result, report_result, form_result, bound_result};
 
@@ -15,7 +17,7 @@ pub mod numbers;
 // The answer of the fit question: a refusal's numbers, or 0, 0, what is lacking, its name, whether row a fits row b, and how many
 // members of row a the walk passed.
 #[repr(C)]
-#[derive(Drop)]
+#[derive(Clone, Copy)]
 pub struct FitResult {
     pub refusal: u32,
     pub line: u32,
@@ -27,7 +29,7 @@ pub struct FitResult {
 
 // The verdict on a sheet: four times 0, or a refusal's numbers.
 #[repr(C)]
-#[derive(Drop)]
+#[derive(Clone, Copy)]
 pub struct VerdictResult {
     pub refusal: u32,
     pub line: u32,
@@ -37,7 +39,7 @@ pub struct VerdictResult {
 
 // The run of a sheet: a refusal's numbers, or four times 0 and the run's outcome, steps, value and number of objects.
 #[repr(C)]
-#[derive(Drop)]
+#[derive(Clone, Copy)]
 pub struct RunResult {
     pub refusal: u32,
     pub line: u32,
@@ -51,7 +53,7 @@ pub struct RunResult {
 
 // A holder's authority: a refusal's numbers, or four times 0 and how many numbers were written.
 #[repr(C)]
-#[derive(Drop)]
+#[derive(Clone, Copy)]
 pub struct AuthorityResult {
     pub refusal: u32,
     pub line: u32,
@@ -63,7 +65,7 @@ pub struct AuthorityResult {
 // The report: a refusal's numbers, or four times 0 and the run's outcome, steps, value and number of objects, and how many numbers
 // were written.
 #[repr(C)]
-#[derive(Drop)]
+#[derive(Clone, Copy)]
 pub struct ReportResult {
     pub refusal: u32,
     pub line: u32,
@@ -78,7 +80,7 @@ pub struct ReportResult {
 
 // One form's lines: a refusal's numbers, or four times 0 and where the lines begin in the text and how many bytes they have.
 #[repr(C)]
-#[derive(Drop)]
+#[derive(Clone, Copy)]
 pub struct FormResult {
     pub refusal: u32,
     pub line: u32,
@@ -90,7 +92,7 @@ pub struct FormResult {
 
 // The most steps that a run can need: a refusal's numbers, or four times 0 and the steps.
 #[repr(C)]
-#[derive(Drop)]
+#[derive(Clone, Copy)]
 pub struct BoundResult {
     pub refusal: u32,
     pub line: u32,

@@ -1,4 +1,6 @@
 // The type rows, read into the table.
+#![tactic(auto)]
+
 ghost use Rattle.std.specs.Prelude.{◌≡◌, ◌≤◌, ◌<◌, ◌+◌, length};
 ghost use Rattle.line_judges.specs.Told.{MemberShaped};
 ghost use Rattle.row_reader.specs.Reads.{Headed, InRow, Kept, MemberRead, MembersRead, RowKept, RowRead, RowsRead};
@@ -10,7 +12,7 @@ use line_reader::{Cursor, LineTaken, Progress};
 use sheet_rules::{MemberKind, Place, Reason};
 
 // Which member is read: member j of row i, which has `count` of them.
-#[derive(Drop)]
+#[derive(Clone, Copy)]
 pub struct MemberAt {
     pub i: usize,
     pub j: usize,

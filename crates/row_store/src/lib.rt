@@ -1,4 +1,6 @@
 // The row in progress: the tests that its lines still have to pass.
+#![tactic(auto)]
+
 ghost use Rattle.std.specs.Prelude.{◌≡◌, ◌&&◌, ◌≤◌, ◌<◌, ◌+◌, suc, eqb, length};
 ghost use Rattle.sheet_rules.specs.RowLines.{name_of, twin, mentions_below};
 ghost use Rattle.line_judges.specs.Told.{Lowest};

@@ -1,4 +1,6 @@
 // Whether a row of the table equals an earlier one.
+#![tactic(auto)]
+
 ghost use Rattle.std.specs.Prelude.{◌≡◌, ◌≤◌, ◌<◌, ◌+◌, length};
 ghost use Rattle.sheet_rules.specs.RowLines.{same_kind, same_member, same_members, same_row, twin};
 ghost use Rattle.table.specs.Layout.{member_count_address, work_size};

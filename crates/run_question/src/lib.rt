@@ -1,5 +1,7 @@
 // The run question: a text is judged, and if its sheet is accepted, it is run within a budget. The bound question: if it is also sure to
 // finish, the most steps that a run can need.
+#![tactic(auto)]
+
 ghost use Rattle.std.specs.Prelude.{◌≤◌, length};
 ghost use Rattle.bound_rules.specs.BoundQuestion.{bound_reply};
 ghost use Rattle.machine_rules.specs.Steps.{run_reply};

@@ -1,5 +1,7 @@
 // Reads a sheet from standard input, runs 10,000 steps, and prints the verdict, what the run answers, and every holder with what
 // it holds. The lines are printer's; here the input is read and they are written.
+#![tactic(auto)]
+
 ghost use Rattle.std.specs.Prelude.{◌≡◌, ◌+◌, ◌≤◌, length};
 
 use libc::{STDIN_FILENO, STDOUT_FILENO};

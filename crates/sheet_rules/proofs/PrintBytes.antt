@@ -108,6 +108,7 @@ digits_front (x ∷ xs) b t =
 
     go : (c : Bool) → T c → T (leb digit0 x && leb x digit9 && c)
     go true h = subst (λ (z : Bool). T (z && true)) (sym (T→true (leb digit0 x && leb x digit9) first)) tt
+    go false h = elim h [ ]
 
 -- the first of several digits is above 0
 first_above : (y : ℕ) (ys : List ℕ) (b : ℕ) → T (all_digits (y ∷ ys)) → T (no_leading_zero (y ∷ (ys ++ (b ∷ [])))) → 1 ≤ value_of (y ∷ ys)

@@ -222,3 +222,4 @@ lines_written ls n s e = go (read_sheet ls n) (sheet_takes ls n) (sheet_left ls 
     go : (x : Read Sheet) → Takes (λ a l. l ≡ sheet_written a) ls x → NoneLeft x → conclude x ≡ readable s → ls ≡ sheet_written s
     go (got a [] m) (takes {taken = l} q d) none_left e = let same : a ≡ s = cc in d ∙ append-nil l ∙ q ∙ ap sheet_written same
     go (refused r m) takes_none not_read e = clash (cc)
+    go (got a (_ ∷ _) m) _ x11 e = elim x11 [ ]

@@ -37,6 +37,8 @@ Inner l = Standing is_inner l
 
 Inner-Proper : (l : Line) → Inner l → Proper l
 Inner-Proper (line k (n ∷ ns)) (standing t) = standing (and_left (has_key k) (not (is_border k)) t)
+Inner-Proper (line k []) x3 = elim x3 [ ]
+Inner-Proper Rattle.sheet_rules.specs.Lines.torn x'' = elim x'' [ ]
 
 Member-Inner : (m : Member) → Inner (member_written m)
 Member-Inner (Method n a r) = standing tt

@@ -62,6 +62,8 @@ border_key Place.Nowhere n ns = refl
 Inner-border : (l : Line) → Inner l → border l ≡ false
 Inner-border (line k (n ∷ ns)) (standing t) =
     border_key k n ns ∙ not-true (is_border k) (T→true (not (is_border k)) (and_right (has_key k) (not (is_border k)) t))
+Inner-border (line k []) x3 = elim x3 [ ]
+Inner-border Rattle.sheet_rules.specs.Lines.torn x'' = elim x'' [ ]
 
 form_border_lem : (f : Form) → border (line Place.Form (f.row ∷ length f.keeps ∷ [])) ≡ true
 form_border_lem f = border_key Place.Form f.row (length f.keeps ∷ [])

@@ -1,14 +1,15 @@
 // The types that the rules and the code share. The rules are in specs/: limits, sheet, keys, lines, reading, answers.
+#![tactic(auto)]
 
 // K of a row: 0 pure, 1 resource.
-#[derive(Drop)]
+#[derive(Clone, Copy)]
 pub enum Kind {
     Pure,
     Resource,
 }
 
 // One member of a row.
-#[derive(Drop)]
+#[derive(Clone, Copy)]
 pub enum Member {
     Method {
         name: u16,
@@ -22,14 +23,14 @@ pub enum Member {
 }
 
 // The two kinds of member.
-#[derive(Drop)]
+#[derive(Clone, Copy)]
 pub enum MemberKind {
     Method,
     Field,
 }
 
 // What an instruction does.
-#[derive(Drop)]
+#[derive(Clone, Copy)]
 pub enum Operation {
     New,
     Call,
@@ -39,7 +40,7 @@ pub enum Operation {
 }
 
 // Where a line may stand, by its key. Where several keys may stand, it says which one it is; a word that is no key may stand nowhere.
-#[derive(Drop)]
+#[derive(Clone, Copy)]
 pub enum Place {
     Types,
     Row,
@@ -58,7 +59,7 @@ pub enum Place {
 
 // What is lacking where a value does not fit: one slot for each kept value; the kind, a resource where pure is asked; or a match for
 // a member, with its name. A name is at most 63, and a byte keeps every refusal small.
-#[derive(Drop)]
+#[derive(Clone, Copy)]
 pub enum Lack {
     Count,
     WrongKind,
@@ -66,7 +67,7 @@ pub enum Lack {
 }
 
 // Why a call is refused, in the order of the paper's numbers 1 to 14. A misfit says what is lacking.
-#[derive(Drop)]
+#[derive(Clone, Copy)]
 pub enum Reason {
     BufferTooShort,
     TextTooLong,
@@ -85,14 +86,14 @@ pub enum Reason {
 }
 
 // The judgement of a sheet: accepted, or refused with the reason and the line at fault.
-#[derive(Drop)]
+#[derive(Clone, Copy)]
 pub enum Verdict {
     Accepted,
     Refused { reason: Reason, line: u32 },
 }
 
 // Whether a row fits another: yes; no, a resource where pure is asked; no, and the lowest member name without a match.
-#[derive(Drop)]
+#[derive(Clone, Copy)]
 pub enum FitAnswer {
     Yes,
     WrongKind,
@@ -101,7 +102,7 @@ pub enum FitAnswer {
 
 // What the question for one form's lines answers: where they begin in the text and how many bytes they have, or a refusal with
 // its line.
-#[derive(Drop)]
+#[derive(Clone, Copy)]
 pub enum FormReply {
     Lines { start: usize, length: usize },
     Refused { reason: Reason, line: u32 },

@@ -1,4 +1,6 @@
 // Notes on the slots that code names, in the work buffer's spare room: of a code, and of each form's bodies.
+#![tactic(auto)]
+
 ghost use Rattle.std.specs.Prelude.{◌≡◌, ◌-◌, ◌≤◌, ◌<◌, eqb, length};
 ghost use Rattle.lists.specs.Contains.{contains};
 ghost use Rattle.sheet_rules.specs.Sheet.{named_slots, code_names, part_names, form_names, form_at};

@@ -9,7 +9,7 @@ ghost use Rattle.table.specs.Whole.{Whole};
 use crate::rows::wide;
 
 // A part of a form: the kept value of an `init`, or where a body's instructions stand and how many they are.
-#[derive(Drop)]
+#[derive(Clone, Copy)]
 pub enum PartPlace {
     Init { kept: u16 },
     Body { start: u16, count: u16 },

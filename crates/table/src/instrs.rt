@@ -8,7 +8,7 @@ ghost use Rattle.table.specs.Whole.{Whole};
 use crate::rows::wide;
 
 // One instruction. The slots of a `new` are read by number.
-#[derive(Drop)]
+#[derive(Clone, Copy)]
 pub enum Instruction {
     New {
         form: u16,

@@ -1,5 +1,7 @@
 // The table in the work buffer: its layout is in specs/Layout, what it holds in specs/View. All reads and writes of the sheet go
 // through here.
+#![tactic(auto)]
+
 ghost use Rattle.std.specs.Prelude.{◌≡◌, ◌<◌, length, set};
 
 pub mod devices;

@@ -1,4 +1,6 @@
 // The sheet in the table, judged: its forms, its devices, then main.
+#![tactic(auto)]
+
 ghost use Rattle.std.specs.Prelude.{◌≡◌, ◌+◌, ◌≤◌, ◌<◌};
 ghost use Rattle.type_rules.specs.SlotRows.{main_rows};
 ghost use Rattle.type_rules.specs.Typing.{first_form_line};

@@ -1,4 +1,6 @@
 // The typing verdict on a text: its sheet is read, the fit table is filled, and its forms and main are judged.
+#![tactic(auto)]
+
 ghost use Rattle.std.specs.Prelude.{◌≤◌, length};
 ghost use Rattle.table.specs.Layout.{work_size};
 ghost use Rattle.verdict_question.specs.Asked.{TextJudged, VerdictAsked};
