@@ -38,6 +38,7 @@ In-values : {s : Sheet} {b : ℕ} {rows ss bs : List ℕ} (slots : List ℕ) →
     → (v : ℕ) × In v ss × (v < length rows) × (b ≡ get_or slots v 0)
 In-values slots (pair {x = v} f p) (here e) = (v, here refl, f.filled, e)
 In-values slots (pair f p) (there i) = let q = In-values slots p i in (q.0, there q.1, q.2, q.3)
+In-values {s = s} {b = b} {rows = rows} slots Rattle.lists.specs.Pairwise.none x4 = elim x4 [ ]
 
 -- the fields that an object starts with are kept values
 In-initial : {s : Sheet} {f : Form} {b : ℕ} {ms : List Member} {ps : List Part} (kept : List ℕ) → length kept ≡ length f.keeps
@@ -46,6 +47,7 @@ unfolding initial_fields
 In-initial kept l (pair (typed_init {k = k} h) p) (here e) = subst (λ (y : ℕ). In y kept) (sym e) (In-get_or kept k 0 (omega (arith, h.filled)))
 In-initial kept l (pair (typed_init h) p) (there i) = In-initial kept l p i
 In-initial kept l (pair (typed_body h) p) i = In-initial kept l p i
+In-initial {s = s} {f = f} {b = b} kept l Rattle.lists.specs.Pairwise.none i = elim i [ ]
 
 -- what is an object's own is made
 own_made : (s : Sheet) (os : List Object) → SoundStore s os → (h b : ℕ) → h < length os → In b (own_values usable s h (object_at os h)) → b < length os

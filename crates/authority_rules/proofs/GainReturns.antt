@@ -83,3 +83,5 @@ module _ (s : Sheet) (σ : State) (c : Sound s σ) where
   unfolding return_step
   return_gains_next none [] code e d b l = its_end
   return_gains_next (some r) (f ∷ fs) code e d (waits r' frame left room fit b) l = its_step (return_gains r f fs code e d l)
+  return_gains_next none (f ∷ fs) code e d b l = elim b [ ]
+  return_gains_next (some r) [] code e d b l = elim b [ ]

@@ -57,6 +57,7 @@ module _ (s : Sheet) (os : List Object) where
     unfolding slots_of
     slots_of_from (f ∷ fs) (this e i) = slots_if_from (holder_of s os (f ∷ fs)) h b (count f) (slots_of count s os h fs) e i
     slots_of_from (f ∷ fs) (later p) = In-right (slots_if (eqb (holder_of s os (f ∷ fs)) h) (count f)) (slots_of count s os h fs) (slots_of_from fs p)
+    slots_of_from [] x' = elim x' [ ]
 
   -- the holder of a frame is main or a resource
   pub holder_is : (fs : List Frame) → (holder_of s os fs ≡ main_holder) ⊎ T (is_resource s os (holder_of s os fs))
@@ -79,6 +80,7 @@ module _ (s : Sheet) (os : List Object) where
   slot_holder : {count : Frame → List ℕ} (h b : ℕ) (fs : List Frame) → SlotOf count h b fs → (h ≡ main_holder) ⊎ T (is_resource s os h)
   slot_holder h b (f ∷ fs) (this e i) = frame_holder_lem h (f ∷ fs) e
   slot_holder h b (f ∷ fs) (later p) = slot_holder h b fs p
+  slot_holder {count = count} h b [] x' = elim x' [ ]
 
   -- a resource is an object
   pub resource_made : (o : ℕ) → T (is_resource s os o) → o < length os

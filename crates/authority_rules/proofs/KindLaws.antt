@@ -69,6 +69,7 @@ module _ (s : Sheet) (w : WellFormed s) (t : Typed s) (σ : State) (c : Sound s 
   pure_values (pair {x = x} {y = k} i p) h (here e) r =
       pure_is x k i (h k (here refl)) (subst (λ (y : ℕ). T (is_resource s σ.objects y)) e r)
   pure_values (pair i p) h (there j) r = pure_values p (λ k m. h k (there m)) j r
+  pure_values {b = b} Rattle.lists.specs.Pairwise.none h x10 r = elim x10 [ ]
 
   -- a pure object keeps no resource
   pub pure_keeps : (o b : ℕ) → o < length σ.objects → is_resource s σ.objects o ≡ false → In b (object_at σ.objects o).kept

@@ -34,6 +34,7 @@ all_frames s σ c = more c.top (below_frames c.below)
 pub slot_made : {s : Sheet} {os : List Object} {h b : ℕ} {fs : List Frame} → SoundFrames s os fs → SlotOf s os waiting_slots h b fs → b < length os
 slot_made (more {f = f} c r) (this e i) = values_made c.slots (places_in (code_names f.code) f.slots i)
 slot_made (more c r) (later p) = slot_made r p
+slot_made {s = s} {os = os} {h = h} {b = b} no_frame x3 = elim x3 [ ]
 
 module _ (s : Sheet) (os os' : List Object) (g : Grows os os') where
   -- an object stays the resource, or the pure object, that it is
@@ -58,3 +59,4 @@ module _ (s : Sheet) (os os' : List Object) (g : Grows os os') where
   pub slot_same : {count : Frame → List ℕ} {h b : ℕ} {fs : List Frame} → SoundFrames s os fs → SlotOf s os' count h b fs → SlotOf s os count h b fs
   slot_same (more f r) (this e i) = this (sym (holder_same (more f r)) ∙ e) i
   slot_same (more f r) (later p) = later (slot_same r p)
+  slot_same {count = count} {h = h} {b = b} no_frame x3 = elim x3 [ ]

@@ -66,6 +66,7 @@ pub body_found : {n a r b : ℕ} {is : List Instr} {ms : List Member} {ps : List
 unfolding body_in
 body_found {n} {is = is} (above l up) (first {ms = ms} {ps = ps}) = ap (λ (t : Bool). cond t (some is) (body_in ms ps n)) (eq-eqb n n refl)
 body_found {n} (above l up) (later {x = x} {y = y} {ps = ps} j) = found_later x y ps n up (body_found up j)
+body_found {n = n} {a = a} {r = r} {is = is} {ps = ps} (NamesAscend.end {i = i}) x4 = elim x4 [ ]
 
 -- THE SHEETS WITHOUT A LINE AGAINST THE RULE
 

@@ -286,6 +286,8 @@ module _ (s : Sheet) (w : WellFormed s) (t : Typed s) (σ : State) (c : Sound s 
         places = c.places;
         height = omega (arith, c.height);
       })
+  return_goes none (f ∷ fs) x8 l h r = elim x8 [ ]
+  return_goes (some r') [] x6 l h r = elim x6 [ ]
 
   code_goes : (is : List Instr) → CodeTyped s c.own c.result c.rows is → length σ.top.slots + length is ≤ slot_limit → Goes s σ is (code_step s σ is)
   unfolding code_step

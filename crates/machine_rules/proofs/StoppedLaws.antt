@@ -26,9 +26,19 @@ use Rattle.machine_rules.proofs.TakenLaws.{full_store, full_stack, take_return, 
 module _ (s : Sheet) (σ : State) where
   new_stopped : (is : List Instr) → σ.top.code ≡ is → BeginsWithNew is → length σ.objects ≡ store_limit → next_step s σ ≡ store_full
   new_stopped (new f ss ∷ is) e a_new h = full_store s σ is f ss e (omega arith)
+  new_stopped [] e x3 h = elim x3 [ ]
+  new_stopped (call _ _ _ ∷ is) e x11 h = elim x11 [ ]
+  new_stopped (Rattle.sheet_rules.specs.Sheet.get _ ∷ is) e x10 h = elim x10 [ ]
+  new_stopped (Rattle.sheet_rules.specs.Sheet.put _ _ ∷ is) e x12 h = elim x12 [ ]
+  new_stopped (Rattle.sheet_rules.specs.Sheet.copy _ ∷ is) e x12 h = elim x12 [ ]
 
   call_stopped : (is : List Instr) → σ.top.code ≡ is → BeginsWithCall is → frame_count σ ≡ stack_limit → next_step s σ ≡ stack_full
   call_stopped (call o n a ∷ is) e a_call h = full_stack s σ is o n a e (omega arith)
+  call_stopped [] e x3 h = elim x3 [ ]
+  call_stopped (new _ _ ∷ is) e x10 h = elim x10 [ ]
+  call_stopped (Rattle.sheet_rules.specs.Sheet.get _ ∷ is) e x10 h = elim x10 [ ]
+  call_stopped (Rattle.sheet_rules.specs.Sheet.put _ _ ∷ is) e x12 h = elim x12 [ ]
+  call_stopped (Rattle.sheet_rules.specs.Sheet.copy _ ∷ is) e x12 h = elim x12 [ ]
 
 module _ (s : Sheet) (w : WellFormed s) (t : Typed s) (σ : State) (c : Sound s σ) where
   pub stopped_by_store : (next_step s σ ≡ store_full) ↔ NoPlace σ

@@ -98,6 +98,7 @@ store_set s os i x e all h o k = object_grows s os (set os i x) (Grows-set os i 
 pub values_made : {s : Sheet} {os : List Object} {b : ℕ} {xs rows : List ℕ} → Pairwise (Is s os) xs rows → In b xs → b < length os
 values_made {os = os} (pair i p) (here e) = subst (λ (x : ℕ). x < length os) (sym e) i.made
 values_made (pair i p) (there j) = values_made p j
+values_made {s = s} {os = os} {b = b} Rattle.lists.specs.Pairwise.none x4 = elim x4 [ ]
 
 module _ (s : Sheet) (os : List Object) where
   -- what fits a row also fits the rows that this row fits
@@ -116,6 +117,8 @@ module _ (s : Sheet) (os : List Object) where
       → Pairwise (Is s os) (slot_values slots ss) bs
   values_fit slots rows [] [] p Pairwise.none = Pairwise.none
   values_fit slots rows (v ∷ ss) (b ∷ bs) p (pair h r) = pair (slot_fits slots rows v b p h) (values_fit slots rows ss bs p r)
+  values_fit slots rows [] (b ∷ bs) p x4 = elim x4 [ ]
+  values_fit slots rows (v ∷ ss) [] p x4 = elim x4 [ ]
 
   -- the fields that a new object starts with fit their rows
   pub initial_fit : (f : Form) (kept : List ℕ) → Pairwise (Is s os) kept f.keeps → {ms : List Member} {ps : List Part}

@@ -34,6 +34,7 @@ use Rattle.type_rules.proofs.FitLaws.{members_at, fit_rule}
 pub names_above : {i : ℕ} {ys : List Member} → NamesAscend i ys → {z : Member} → In z ys → i ≤ name_of z
 names_above {i} (above h r) (here e) = subst (λ (y : Member). i ≤ name_of y) (sym e) h
 names_above (above h r) (there j) = let k = names_above r j in omega arith
+names_above (NamesAscend.end {i = i}) {z = z} x4 = elim x4 [ ]
 
 -- the lowest member without a match
 pub record Lowest (fit : ℕ → ℕ → Bool) (xs ys : List Member) (n : ℕ) : Type 0 where

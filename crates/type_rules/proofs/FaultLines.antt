@@ -59,12 +59,16 @@ module _ (judge : LineJudge) (s : Sheet) where
     part_lines : {forms keeps : ℕ} (m : Member) (p : Part) → In m (members_at s f.row) → PartOf forms keeps m p → Pairwise (FaultOf judge s) (part_faults judge s n f m p) (part_written p)
     part_lines (Field m r) (init k) j (field h) = pair (of_init here-is j) Pairwise.none
     part_lines (Method m a r) (body is) j (method h) = pair (of_body is) (code_lines (judge.of_body n f m r) (of_instr here-is j) (some f.row) (body_rows f a) is)
+    part_lines {forms = forms} {keeps = keeps} (Method m a r) (init k) j x4 = elim x4 [ ]
+    part_lines {forms = forms} {keeps = keeps} (Field m r) (body is) j x5 = elim x5 [ ]
 
     parts_lines : {forms keeps : ℕ} (ms : List Member) (ps : List Part) → ((m : Member) → In m ms → In m (members_at s f.row)) → Pairwise (PartOf forms keeps) ms ps
         → Pairwise (FaultOf judge s) (parts_faults judge s n f ms ps) (parts_written ps)
     unfolding parts_faults parts_written
     parts_lines [] [] j Pairwise.none = Pairwise.none
     parts_lines (m ∷ ms) (p ∷ ps) j (pair q r) = Pairwise-both (part_lines m p (j m (here refl)) q) (parts_lines ms ps (λ x k. j x (there k)) r)
+    parts_lines {forms = forms} {keeps = keeps} [] (p ∷ ps) j x4 = elim x4 [ ]
+    parts_lines {forms = forms} {keeps = keeps} (m ∷ ms) [] j x4 = elim x4 [ ]
 
     keeps_lines : (ks : List ℕ) → ((k : ℕ) → In k ks → In k f.keeps) → Pairwise (FaultOf judge s) (map (judge.of_keep n f) ks) (map keep_written ks)
     keeps_lines [] j = Pairwise.none

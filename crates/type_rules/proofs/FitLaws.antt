@@ -31,6 +31,7 @@ unfolding has_match
 has_match_from fit (z ∷ xs) y (here e) t =
     or_left (matches fit z y) (has_match fit xs y) (subst (λ (w : Member). T (matches fit w y)) e t)
 has_match_from fit (z ∷ xs) y (there i) t = or_right (matches fit z y) (has_match fit xs y) (has_match_from fit xs y i t)
+has_match_from fit [] y x4 t = elim x4 [ ]
 
 pub has_match_at : (fit : ℕ → ℕ → Bool) (xs : List Member) (y : Member) → T (has_match fit xs y) → (x : Member) × In x xs × T (matches fit x y)
 unfolding has_match

@@ -46,6 +46,7 @@ method_in-In (Method k a r ∷ xs) n m e = go (eqb k n) refl e (method_in-In xs 
 names_from : {i : ℕ} {x : Member} (xs : List Member) → NamesAscend i xs → In x xs → i ≤ name_of x
 names_from {i} {x} (y ∷ xs) (above h r) (here e) = subst (λ (z : Member). i ≤ name_of z) (sym e) h
 names_from {i} {x} (y ∷ xs) (above h r) (there j) = let k : suc (name_of y) ≤ name_of x = names_from xs r j in omega arith
+names_from {i = i} {x = x} [] _ x4 = elim x4 [ ]
 
 -- where names ascend, a method that is a member is the one that the look-up finds
 In-method_in : {i : ℕ} (xs : List Member) (n a r : ℕ) → NamesAscend i xs → In (Method n a r) xs → method_in xs n ≡ some (signature a r)
@@ -58,6 +59,7 @@ In-method_in (Method k b c ∷ xs) n a r (above h p) (here e) =
 In-method_in (Method k b c ∷ xs) n a r (above h p) (there j) =
     let up : suc k ≤ n = names_from xs p j in
     ap (λ (t : Bool). cond t (some (signature b c)) (method_in xs n)) (ne_eqb k n (λ e. omega arith)) ∙ In-method_in xs n a r p j
+In-method_in {i = i} [] n a r _ x3 = elim x3 [ ]
 
 -- THROUGH FIT
 

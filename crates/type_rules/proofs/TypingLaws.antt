@@ -160,6 +160,8 @@ module _ (s : Sheet) where
       typed_init (record { filled = b; fit = fit_passed (get_or f.keeps k 0) r (h _ (here refl)) })
   part_typed n f (Method m a r) (body is) (PartOf.method w) h =
       typed_body (body_typed (some f.row) (some r) (body_rows f a) is w (λ g i. h g (there i)))
+  part_typed n f (Method m a r) (init k) x4 h = elim x4 [ ]
+  part_typed n f (Field m r) (body is) x5 h = elim x5 [ ]
 
   parts_typed : (n : ℕ) (f : Form) (ms : List Member) (ps : List Part) → Pairwise (PartOf (length s.forms) (length f.keeps)) ms ps
       → Faultless (parts_faults of_typing s n f ms ps) → Pairwise (PartTyped s f) ms ps
@@ -168,6 +170,8 @@ module _ (s : Sheet) where
   parts_typed n f (m ∷ ms) (p ∷ ps) (pair o r) h =
       pair (part_typed n f m p o (λ g i. h g (In-left (part_faults of_typing s n f m p) (parts_faults of_typing s n f ms ps) i)))
       (parts_typed n f ms ps r (λ g i. h g (In-right (part_faults of_typing s n f m p) (parts_faults of_typing s n f ms ps) i)))
+  parts_typed n f [] (p ∷ ps) x4 h = elim x4 [ ]
+  parts_typed n f (m ∷ ms) [] x4 h = elim x4 [ ]
 
   -- a test of the form `not (pure and b)` that passed: where pure is asked, b fails
   pure_not : (a b : Bool) → T (not (a && b)) → T a → T b → ⊥
