@@ -54,6 +54,8 @@ this_name : (n : ℕ) (m : Member) (p : Part) {forms keeps b : ℕ} {ms : List M
 unfolding body_in
 this_name n (Field m r) (init k) ps (PartOf.field h) up l e = none_under n ps up l
 this_name n (Method m a r) (body is) {ms = ms} ps (PartOf.method h) up l e = ap (λ (t : Bool). cond t (some is) (body_in ms ps n)) (eq-eqb m n e)
+this_name n (Method m a r) (init k) {forms = forms} {keeps = keeps} {b = b} {ms = ms} ps x8 up l e = elim x8 [ ]
+this_name n (Field m r) (body is) {forms = forms} {keeps = keeps} {b = b} {ms = ms} ps x9 up l e = elim x9 [ ]
 
 -- no name is below 0
 pub passed_zero : (ms : List Member) → passed_below ms 0 ≡ 0

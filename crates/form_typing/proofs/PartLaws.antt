@@ -98,3 +98,4 @@ place_small w (PartPlace.Body start count) {forms} {keeps} {m} e o = a_body (few
   where
     few : (y : Member) → PartOf forms keeps y (body (instrs_in w start count)) → count ≤ 32
     few (Method n a r) (PartOf.method b) = omega (arith, b.few, length-tab (λ i. instr_in w (start + i)) count)
+    few (Field _ _) x7 = elim x7 [ ]

@@ -62,6 +62,8 @@ parts_lines judge s n f (pair {x = m} {y = p} {xs = ms} {ys = ps} o rest) =
     one : {forms keeps : ℕ} (x : Member) (y : Part) → PartOf forms keeps x y → length (part_faults judge s n f x y) ≤ 33
     one (Field m r) (init k) (PartOf.field h) = omega arith
     one (Method m a r) (body is) (PartOf.method h) = omega (arith, h.few, instr_lines (judge.of_body n f m r) s (some f.row) (body_rows f a) is)
+    one (Method m a r) (init k) x4 = elim x4 [ ]
+    one (Field m r) (body is) x5 = elim x5 [ ]
 
 -- where the loop stands
 pub record PartsGoing (f first : ℕ) (w₀ w : List ℕ) (j line : ℕ) : Type 0 where

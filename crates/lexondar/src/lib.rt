@@ -1,4 +1,4 @@
-// The library that a terminal links: the questions with their answers in numbers, under plain names.
+// The questions with their answers in numbers, under plain names.
 #![tactic(auto)]
 
 ghost use Rattle.sheet_rules.specs.declared.FormReply.{FormReply as FormReplied};
@@ -26,32 +26,28 @@ use results::{
 };
 
 // Whether row a of a text's sheet fits row b, what is lacking if not, and how many members of row a the walk passed.
-#[unsafe(no_mangle)]
-pub extern "C" fn lexondar_fit(text: &[u8], a: usize, b: usize, work: &mut [u16]) -> FitResult
+pub fn lexondar_fit(text: &[u8], a: usize, b: usize, work: &mut [u16]) -> FitResult
     ensures { AskedAlone (fit_result (fit_told text.now a b)) (fit_result (told_refused BufferTooShort 0)) work.old work.new result }
 {
     results::fit_result(fit_question::ask_fit(text, a, b, work))
 }
 
 // The verdict on a text's sheet.
-#[unsafe(no_mangle)]
-pub extern "C" fn lexondar_verdict(text: &[u8], work: &mut [u16]) -> VerdictResult
+pub fn lexondar_verdict(text: &[u8], work: &mut [u16]) -> VerdictResult
     ensures { AskedAlone (verdict_result (verdict text.now)) (verdict_result (VerdictGiven.Refused BufferTooShort 0)) work.old work.new result }
 {
     results::verdict_result(verdict_question::ask_verdict(text, work))
 }
 
 // The run of a text's sheet within a budget.
-#[unsafe(no_mangle)]
-pub extern "C" fn lexondar_run(text: &[u8], budget: u32, work: &mut [u16]) -> RunResult
+pub fn lexondar_run(text: &[u8], budget: u32, work: &mut [u16]) -> RunResult
     ensures { AskedAlone (run_result (run_reply text.now budget)) (run_result (RunReplied.Refused BufferTooShort 0)) work.old work.new result }
 {
     results::run_result(run_question::ask_run(text, budget, work))
 }
 
 // The authority of a holder after the run of a text's sheet within a budget.
-#[unsafe(no_mangle)]
-pub extern "C" fn lexondar_authority(
+pub fn lexondar_authority(
     text: &[u8],
     budget: u32,
     h: usize,
@@ -64,8 +60,7 @@ pub extern "C" fn lexondar_authority(
 }
 
 // What a list of holders holds together after the run of a text's sheet within a budget.
-#[unsafe(no_mangle)]
-pub extern "C" fn lexondar_group(
+pub fn lexondar_group(
     text: &[u8],
     budget: u32,
     holders: &[u16],
@@ -78,29 +73,21 @@ pub extern "C" fn lexondar_group(
 }
 
 // The run of a text's sheet within a budget, and every holder's authority after it.
-#[unsafe(no_mangle)]
-pub extern "C" fn lexondar_report(
-    text: &[u8],
-    budget: u32,
-    work: &mut [u16],
-    res: &mut [u16],
-) -> ReportResult
+pub fn lexondar_report(text: &[u8], budget: u32, work: &mut [u16], res: &mut [u16]) -> ReportResult
     ensures { Asked every_size (report_result (report_reply (report text.now budget))) (report_result (Reported.Refused BufferTooShort 0)) (report_numbers (report text.now budget)) work.old res.old work.new res.new result }
 {
     results::report_result(authority_question::report::ask_report(text, budget, work, res))
 }
 
 // Where the lines of a form of a text's sheet stand in the text.
-#[unsafe(no_mangle)]
-pub extern "C" fn lexondar_form(text: &[u8], form: usize, work: &mut [u16]) -> FormResult
+pub fn lexondar_form(text: &[u8], form: usize, work: &mut [u16]) -> FormResult
     ensures { AskedAlone (form_result (form_reply text.now form)) (form_result (FormReplied.Refused BufferTooShort 0)) work.old work.new result }
 {
     results::form_result(form_question::ask_place(text, form, work))
 }
 
 // The most steps that a run of a text's sheet can need, if it is sure to finish.
-#[unsafe(no_mangle)]
-pub extern "C" fn lexondar_bound(text: &[u8], work: &mut [u16]) -> BoundResult
+pub fn lexondar_bound(text: &[u8], work: &mut [u16]) -> BoundResult
     ensures { AskedAlone (bound_result (bound_reply text.now)) (bound_result (BoundReplied.Refused BufferTooShort 0)) work.old work.new result }
 {
     results::bound_result(run_question::ask_bound(text, work))

@@ -2,80 +2,53 @@
 // it holds. The lines are printer's; here the input is read and they are written.
 #![tactic(auto)]
 
-ghost use Rattle.std.specs.Prelude.{◌≡◌, ◌+◌, ◌≤◌, length};
+ghost use Rattle.std.specs.Prelude.{◌≡◌, ◌≤◌, IfOk, length};
 
-use libc::{STDIN_FILENO, STDOUT_FILENO};
 use printer::lines::print_report;
+use std::io;
+use std::io::{Read, Write};
+use std::process::ExitCode;
 
-// How much was read, and whether the input ended well.
-#[derive(Drop)]
-struct Input {
-    length: usize,
-    is_whole: bool,
+// Reads once and forgets what came; answers how many bytes came.
+fn skip_some<R: Read>(input: &mut R) -> io::Result<usize> {
+    let mut rest = [0u8; 4096];
+    input.read(&mut rest)
 }
 
-// What came of reading once: how many bytes, and whether the input is at its end.
-#[derive(Drop)]
-struct Got {
-    more: usize,
-    is_end: bool,
-}
-
-// Reads once and forgets what came; answers what the call answered.
-fn skip_some() -> isize {
-    let mut rest = io::buffer();
-    libc::read(STDIN_FILENO, &mut rest)
-}
-
-// Reads the input to its end and forgets it; answers whether it ended well. A proved loop has to end, so it counts its turns down,
-// from a number that no run uses up.
-fn skip_rest() -> bool {
-    let mut turns = u64::MAX;
-    while turns > 0 {
-        let got = skip_some();
-        if got <= 0 {
-            return got == 0;
+// Reads the input to its end and forgets it. A proved loop has to end, so it has a number of turns, which no run uses up.
+fn skip_rest<R: Read>(input: &mut R) -> io::Result<()> {
+    for _ in 0..u64::MAX {
+        if skip_some(input)? == 0 {
+            return Ok(());
         }
-        turns = turns - 1;
     }
-    false
+    Err(io::Error::other("the input has no end"))
 }
 
-// Reads once, from place n of the buffer on.
-fn read_more(text: &mut [u8], n: usize) -> Got
-    requires { n ≤ length text.old }
-    ensures { n + result.more ≤ length text.new }
-{
-    let got = libc::read(STDIN_FILENO, &mut text[n..]);
-    let more = io::count(got, &text[n..]);
-    Got {
-        more,
-        is_end: got == 0,
-    }
-}
-
-// Reads the input. Of one that fills the buffer the rest is skipped, so that nobody who writes a long sheet is cut off.
-fn read_input(text: &mut [u8]) -> Input
-    ensures { result.length ≤ length text.new }
+// Reads the input, and answers how many bytes of the buffer it fills. Of one that fills the buffer the rest is skipped, so that
+// nobody who writes a long sheet is cut off.
+fn read_input<R: Read>(input: &mut R, text: &mut [u8]) -> io::Result<usize>
+    ensures { IfOk result (λ n. n ≤ length text.new) }
 {
     let mut n: usize = 0;
     while n < text.len() {
-        let got = read_more(text, n);
-        if got.more == 0 {
-            return Input {
-                length: n,
-                is_whole: got.is_end,
-            };
+        let more = input.read(&mut text[n..])?;
+        if more == 0 {
+            return Ok(n);
         }
-        n = n + got.more;
+        n = n + more;
     }
-    Input {
-        length: n,
-        is_whole: skip_rest(),
-    }
+    skip_rest(input)?;
+    Ok(n)
 }
 
 // The buffers, each with its length, which lending it as a slice needs.
+fn text_buffer() -> [u8; 65536]
+    ensures { 65536 ≡ length result }
+{
+    [0; 65536]
+}
+
 fn work_buffer() -> [u16; 32768]
     ensures { 32768 ≡ length result }
 {
@@ -94,19 +67,27 @@ fn out_buffer() -> [u8; 729472]
     [0; 729472]
 }
 
-fn main() {
-    let mut text = io::large_buffer();
+fn main(rt: HostRuntime) -> ExitCode {
+    let mut text = text_buffer();
     let mut work = work_buffer();
     let mut numbers = number_buffer();
     let mut out = out_buffer();
-    let input = read_input(&mut text);
-    if !input.is_whole {
-        os::fail(b"standard input");
-        return;
+    match read_input(&mut rt.stdin(), &mut text) {
+        Ok(n) => {
+            let length = print_report(&text[..n], 10000, &mut work, &mut numbers, &mut out);
+            match rt.stdout().write_all(&out[..length]) {
+                Ok(()) => ExitCode::SUCCESS,
+                Err(e) => failed(&rt, "standard output", e),
+            }
+        }
+        Err(e) => failed(&rt, "standard input", e),
     }
-    let n = input.length;
-    let length = print_report(&text[..n], 10000, &mut work, &mut numbers, &mut out);
-    if !io::write_all(STDOUT_FILENO, &out[..length]) {
-        os::fail(b"standard output");
+}
+
+// Says on standard error what failed. Where that fails too, nothing is left to say it to.
+fn failed(rt: &impl Eprint, what: &str, error: io::Error) -> ExitCode {
+    match eprintln!(rt; "{what}: {error}") {
+        Ok(()) => ExitCode::FAILURE,
+        Err(_) => ExitCode::FAILURE,
     }
 }
