@@ -1,5 +1,5 @@
 //! Links liblexondar.a from the folder that LEXONDAR_LIB_DIR names, or else
-//! from where `rt staticlib lexondar` writes it.
+//! from where `make` writes it.
 
 use std::env;
 use std::path::{Path, PathBuf};
@@ -31,7 +31,7 @@ fn fault(archive: &Path) -> Option<String> {
         Some(format!("{VARIABLE} must be an absolute path"))
     } else if !archive.is_file() {
         Some(format!(
-            "{} is not there: `rt staticlib lexondar` builds it, \
+            "{} is not there: `make` builds it, \
              and {VARIABLE} names the folder of one that is installed",
             archive.display()
         ))

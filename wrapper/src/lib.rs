@@ -25,7 +25,7 @@
 //! }
 //! ```
 //!
-//! The archive `liblexondar.a` is linked from where `rt staticlib lexondar`
+//! The archive `liblexondar.a` is linked from where the repository's `make`
 //! writes it, or from the folder that `LEXONDAR_LIB_DIR` names. In the examples
 //! below the sheets are those of the repository's `examples`: `CLERK` a clerk
 //! before a scale, `MAKERS` two makers with one valve.

@@ -139,7 +139,7 @@ pub fn body_line(wanted: Place, used: u32, place: Place, numbers: Numbers) -> Li
 // `type=K,M`, but for the test whether the row has a twin.
 pub fn row_line(place: Place, numbers: Numbers) -> LineJudged
     requires { Fitting place numbers }
-    ensures n1_value { (earlier : List RowRule) → line_told result (row_told earlier numbers.n0 numbers.n1) ≡ row_line earlier place (list_of numbers) }
+    ensures told { (earlier : List RowRule) → line_told result (row_told earlier numbers.n0 numbers.n1) ≡ row_line earlier place (list_of numbers) }
     ensures few { result ≡ LineJudged.Good → numbers.n1 ≤ 8 }
 {
     let here = same_place(place, Place::Row);
@@ -192,7 +192,7 @@ pub fn form_line(rows: u32, place: Place, numbers: Numbers) -> LineJudged
 // A member line, where the least name that ascends is given: but for the tests of the whole row.
 pub fn member_line(lowest: u32, place: Place, numbers: Numbers) -> LineJudged
     requires { Fitting place numbers }
-    ensures by_index { (limit : ℕ) (earlier : List RowRule) (h : Heading) (before : List MemberRule) → Lowest before lowest → line_told result (member_rest limit earlier h before place (list_of numbers)) ≡ member_line limit earlier h before place (list_of numbers) }
+    ensures told { (limit : ℕ) (earlier : List RowRule) (h : Heading) (before : List MemberRule) → Lowest before lowest → line_told result (member_rest limit earlier h before place (list_of numbers)) ≡ member_line limit earlier h before place (list_of numbers) }
     ensures named { result ≡ LineJudged.Good → same_place place (PlaceRule.Member MemberKindRule.Method) ≡ true }
 {
     let Place::Member { kind: _ } = place else {

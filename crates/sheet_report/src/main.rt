@@ -26,9 +26,10 @@ fn skip_rest<R: Read>(input: &mut R) -> io::Result<()> {
 }
 
 // Reads the input, and answers how many bytes of the buffer it fills. Of one that fills the buffer the rest is skipped, so that
-// nobody who writes a long sheet is cut off.
+// nobody who writes a long sheet is cut off. Where reading fails, the buffer has what came before.
 fn read_input<R: Read>(input: &mut R, text: &mut [u8]) -> io::Result<usize>
-    ensures { IfOk result (λ n. n ≤ length text.new) }
+    ensures filled { IfOk result (λ n. n ≤ length text.new) }
+    ensures whole { length text.new ≡ length text.old }
 {
     let mut n: usize = 0;
     while n < text.len() {

@@ -46,6 +46,8 @@ fn what_can_t_be_read_is_one_line_and_the_others_are_checked() {
         "clerk.sheet",
     ];
     let said = said(&words);
+    // The gate refuses a checkout with a link in it.
+    fs::remove_file(&looped).expect("the link");
     assert_eq!(said.out, "clerk.sheet: accepted\n");
     assert_eq!(said.status, 2);
     let lines: Vec<&str> = said.err.lines().collect();
@@ -92,6 +94,7 @@ fn a_folder_is_walked_to_its_ends_and_in_order() {
     }
     symlink("..", folder.join("b/up")).expect("a link");
     let said = said(&["check", word(&folder)]);
+    fs::remove_file(folder.join("b/up")).expect("the link");
     let names: Vec<&str> = said.out.lines().collect();
     let wanted = ["a.sheet", "b/deep/x.sheet", "c.sheet"];
     let wanted = wanted.map(|name| format!("{}: accepted", folder.join(name).display()));

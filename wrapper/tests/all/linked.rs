@@ -36,7 +36,7 @@ fn a_missing_archive_is_an_error_that_names_the_command() {
     let missing = format!("{} is not there", empty.join("liblexondar.a").display());
     let line = said.lines().find(|line| line.contains(&missing));
     let line = line.unwrap_or_else(|| panic!("{said}"));
-    assert!(line.contains("`rt staticlib lexondar` builds it"), "{line}");
+    assert!(line.contains("`make` builds it"), "{line}");
     assert!(line.contains("LEXONDAR_LIB_DIR names the folder"), "{line}");
 }
 

@@ -16,13 +16,16 @@ const RULES: [(&str, &str); 5] = [
     ("B", "bound_rules"),
 ];
 
-/// All files below a folder with one of the endings.
+/// All files below a folder with one of the endings, but for what checks leave
+/// in a folder `out`.
 fn files(folder: &Path, endings: &[&str]) -> Vec<PathBuf> {
     let mut found = Vec::new();
     for entry in fs::read_dir(folder).into_iter().flatten() {
         let path = entry.expect("an entry").path();
         if path.is_dir() {
-            found.extend(files(&path, endings));
+            if !path.ends_with("out") {
+                found.extend(files(&path, endings));
+            }
         } else if path
             .extension()
             .is_some_and(|e| endings.iter().any(|ending| e == *ending))

@@ -3,7 +3,7 @@
 
 use crate::compiler::ROOT;
 use std::fs;
-use std::os::unix::fs::{symlink, PermissionsExt};
+use std::os::unix::fs::PermissionsExt;
 use std::path::{Path, PathBuf};
 use std::process::{Command, Output};
 
@@ -145,7 +145,7 @@ fn script(name: &str, path: &Path) -> (bool, String) {
 fn path(name: &str) -> PathBuf {
     let path = folder(name);
     for tool in ["dirname", "cat", "sed"] {
-        symlink(format!("/usr/bin/{tool}"), path.join(tool)).expect("a link");
+        fs::copy(format!("/usr/bin/{tool}"), path.join(tool)).expect("a copy");
     }
     path
 }

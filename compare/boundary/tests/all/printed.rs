@@ -21,7 +21,7 @@ fn printed_in(pieces: &[&[u8]]) -> String {
         .spawn();
     let mut child = child.unwrap_or_else(|error| {
         panic!(
-            "target/bin/sheet_report does not start ({error}): `rt check sheet_report` builds it"
+            "target/bin/sheet_report does not start ({error}): `.ci/build program` builds it"
         )
     });
     let mut input = child.stdin.take().expect("standard input");

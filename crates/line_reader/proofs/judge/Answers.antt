@@ -6,10 +6,10 @@ pub returns-in-Types : goal.returns-in-Types
 returns-in-Types c = Judges-at c.in-Types.is c.args.bound c.args.place c.args.numbers c.count_line.result c.count_line.ensures
 
 pub returns-in-Row : goal.returns-in-Row
-returns-in-Row c = Judges-at c.in-Row.is c.args.bound c.args.place c.args.numbers c.row_line.result (c.row_line.ensures.n1_value, c.row_line.ensures.few)
+returns-in-Row c = Judges-at c.in-Row.is c.args.bound c.args.place c.args.numbers c.row_line.result (c.row_line.ensures.told, c.row_line.ensures.few)
 
 pub returns-in-Member : goal.returns-in-Member
-returns-in-Member c = Judges-at c.in-Member.is c.args.bound c.args.place c.args.numbers c.member_line.result (c.member_line.ensures.by_index, c.member_line.ensures.named)
+returns-in-Member c = Judges-at c.in-Member.is c.args.bound c.args.place c.args.numbers c.member_line.result (c.member_line.ensures.told, c.member_line.ensures.named)
 
 pub returns-in-Forms : goal.returns-in-Forms
 returns-in-Forms c = Judges-at c.in-Forms.is c.args.bound c.args.place c.args.numbers c.count_line-in-Forms.result c.count_line-in-Forms.ensures
