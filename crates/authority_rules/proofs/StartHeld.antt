@@ -5,7 +5,7 @@ use mathlib.Core.Path.{◌≡◌, refl, sym, ◌∙◌, subst}
 use mathlib.Core.Bool.{Bool, ◌||◌}
 use mathlib.Core.List.{[], ◌∷◌}
 use mathlib.Core.Logic.{◌⊎◌, inl, inr, ◌↔◌}
-use lib.Dec.{T, eqb, eqb→eq, ltb, lt→ltb}
+use lib.Dec.{T, eqb→eq, ltb, lt→ltb}
 use lib.ListN.{length, get_or}
 use Rattle.lists.specs.In.{In, here, there}
 use Rattle.lists.specs.AtPlaces.{at_places}
