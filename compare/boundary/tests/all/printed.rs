@@ -20,9 +20,7 @@ fn printed_in(pieces: &[&[u8]]) -> String {
         .stdout(Stdio::piped())
         .spawn();
     let mut child = child.unwrap_or_else(|error| {
-        panic!(
-            "target/bin/sheet_report does not start ({error}): `.ci/build program` builds it"
-        )
+        panic!("target/bin/sheet_report does not start ({error}): `.ci/build program` builds it")
     });
     let mut input = child.stdin.take().expect("standard input");
     for (i, piece) in pieces.iter().enumerate() {

@@ -10,7 +10,7 @@ fn read(file: &str) -> String {
     fs::read_to_string(format!("{ROOT}/{file}")).expect("a file of the repository")
 }
 
-/// The lines that end every check.
+/// The words that end every check's last line.
 fn built() -> String {
     let toolchain = read("toolchain.txt");
     let sum = toolchain
@@ -18,37 +18,49 @@ fn built() -> String {
         .rsplit(' ')
         .next()
         .expect("the logic's sum");
-    format!("sum={sum} native=nat,char,string logic-built=trusted libraries-built=trusted\n")
-}
-
-/// What the checks of all crates print at their ends.
-fn proofs() -> String {
-    let crates = read("crates.txt");
-    let crates = crates
-        .lines()
-        .filter(|line| line.contains(':') && !line.starts_with('#'));
-    let plain = format!("logic=proved functions=3 {}", built());
-    plain.repeat(crates.count() - 1)
-        + "axioms libc: libc::read, libc::write (2 of the 50 declared)\n\
-           axioms os: os::c::__xpg_strerror_r, os::c::rattle_errno (2 of the 10 declared)\n\
-           logic=proved functions=8 axioms=4 target=x86_64-unknown-linux-gnu "
-        + &built()
-}
-
-/// What the library's check prints at its end.
-fn library() -> String {
     format!(
-        "logic=proved functions=8 target=x86_64-unknown-linux-gnu {}",
-        built()
+        "sum={sum} native=nat,char,string logic-built=trusted libraries-built=trusted \
+         statements=trusted incremental=trusted\n"
     )
 }
 
+/// What the gate of all crates says at its end: the first was proved before.
+fn proofs() -> String {
+    let crates = read("crates.txt");
+    let names: Vec<&str> = crates
+        .lines()
+        .filter(|line| !line.starts_with('#'))
+        .filter_map(|line| line.split([' ', ':']).next())
+        .filter(|name| !name.is_empty())
+        .collect();
+    let mut lines = format!("rt: {} is kept: an earlier run\n", names[0]);
+    for name in &names[1..] {
+        lines += &format!("logic=proved functions=3\nrt: {name} proved\n");
+    }
+    lines + "rt: ok; handles allowed: none; must-fail edits: 170 refused\n"
+}
+
+/// What the library's and the program's builds print.
+fn parts() -> String {
+    let none = "axioms libc: none reached of the 128 declared\n\
+                axioms os: none reached of the 22 declared\n";
+    let named = "axioms libc: libc::read, libc::write (2 of the 128 declared)\n\
+                 axioms os: os::c::__xpg_strerror_r, os::c::rattle_errno (2 of the 22 declared)\n";
+    let target = "target=x86_64-unknown-linux-gnu";
+    let built = built();
+    let library = format!("{none}logic=proved functions=8 {target} {built}");
+    let program =
+        format!("{named}logic=proved functions=9 axioms=4 {target} cpu=x86-64-v2 {built}");
+    // The program's lines come twice, of its check and of its build.
+    library + &program + &program
+}
+
 /// Whether the command accepts these lines, and what it prints.
-fn assumed(proofs: &str, library: &str) -> (bool, String) {
+fn assumed(proofs: &str, parts: &str) -> (bool, String) {
     let folder = Path::new(env!("CARGO_TARGET_TMPDIR"));
-    let files = [folder.join("proofs"), folder.join("library")];
+    let files = [folder.join("proofs"), folder.join("built")];
     fs::write(&files[0], proofs).expect("a log");
-    fs::write(&files[1], library).expect("a log");
+    fs::write(&files[1], parts).expect("a log");
     let output = Command::new(format!("{ROOT}/.ci/assumed"))
         .args(files)
         .output();
@@ -59,32 +71,40 @@ fn assumed(proofs: &str, library: &str) -> (bool, String) {
 
 #[test]
 fn what_is_assumed_is_what_the_page_says_and_anything_else_fails() {
-    let (done, lines) = assumed(&proofs(), &library());
+    let (done, lines) = assumed(&proofs(), &parts());
     assert!(done, "{lines}");
     let page = read("docs/TRUST.md");
     for line in lines.lines() {
         assert!(page.contains(&format!("\n    {line}\n")), "{line}");
     }
+    let fails = |proofs: &str, parts: &str, words: &str| {
+        assert_eq!(assumed(proofs, parts), (false, String::new()), "{words}");
+    };
     let edits = [
-        ("axioms=4 ", ""),
-        ("libc::write", "libc::close"),
-        ("functions=3 ", "functions=3 foreign=other "),
-        ("logic=proved functions=3", "logic=not-proved functions=3"),
-        (
-            "libraries-built=trusted",
-            "libraries-built=trusted incremental=trusted",
-        ),
-        ("sum=", "sum=0"),
+        ("rt: table proved", "rt: FAILED: table"),
+        ("rt: ok; ", ""),
+        ("allowed: none", "allowed: Threads"),
     ];
     for (words, other) in edits {
         let edited = proofs().replacen(words, other, 1);
         assert_ne!(edited, proofs(), "{words}");
-        assert_eq!(
-            assumed(&edited, &library()),
-            (false, String::new()),
-            "{words}"
-        );
+        fails(&edited, &parts(), words);
     }
-    let edited = library().replacen("target", "axioms=1 target", 1);
-    assert_eq!(assumed(&proofs(), &edited), (false, String::new()));
+    let edits = [
+        ("axioms=4 ", ""),
+        ("libc::write", "libc::close"),
+        ("functions=8 ", "functions=8 foreign=other "),
+        ("functions=8 ", "functions=8 axioms=1 "),
+        ("logic=proved functions=8", "logic=not-proved functions=8"),
+        (
+            "libraries-built=trusted",
+            "libraries-built=trusted cache=trusted",
+        ),
+        ("sum=", "sum=0"),
+    ];
+    for (words, other) in edits {
+        let edited = parts().replace(words, other);
+        assert_ne!(edited, parts(), "{words}");
+        fails(&proofs(), &edited, words);
+    }
 }
