@@ -24,7 +24,7 @@ fn built() -> String {
     )
 }
 
-/// What the gate of all crates says at its end: the first was proved before.
+/// What the gate says of all crates: the first was proved before.
 fn proofs() -> String {
     let crates = read("crates.txt");
     let names: Vec<&str> = crates
@@ -34,8 +34,9 @@ fn proofs() -> String {
         .filter(|name| !name.is_empty())
         .collect();
     let mut lines = format!("rt: {} is kept: an earlier run\n", names[0]);
+    let built = built().replace(" incremental=trusted", "");
     for name in &names[1..] {
-        lines += &format!("logic=proved functions=3\nrt: {name} proved\n");
+        lines += &format!("logic=proved functions=3 {built}rt: {name} proved\n");
     }
     lines + "rt: ok; handles allowed: none; must-fail edits: 170 refused\n"
 }
@@ -49,8 +50,7 @@ fn parts() -> String {
     let target = "target=x86_64-unknown-linux-gnu";
     let built = built();
     let library = format!("{none}logic=proved functions=8 {target} {built}");
-    let program =
-        format!("{named}logic=proved functions=9 axioms=4 {target} cpu=x86-64-v2 {built}");
+    let program = format!("{named}logic=proved functions=9 axioms=4 {target} {built}");
     // The program's lines come twice, of its check and of its build.
     library + &program + &program
 }
@@ -84,6 +84,14 @@ fn what_is_assumed_is_what_the_page_says_and_anything_else_fails() {
         ("rt: table proved", "rt: FAILED: table"),
         ("rt: ok; ", ""),
         ("allowed: none", "allowed: Threads"),
+        ("functions=3 ", "functions=3 foreign=other "),
+        ("functions=3 ", "functions=3 axioms=1 "),
+        ("logic=proved functions=3", "logic=not-proved functions=3"),
+        (
+            "statements=trusted",
+            "statements=trusted incremental=trusted",
+        ),
+        ("sum=", "sum=0"),
     ];
     for (words, other) in edits {
         let edited = proofs().replacen(words, other, 1);
