@@ -15,7 +15,7 @@ headers := include/lexondar.h include/lexondar_words.h
 version := $(shell sed -n 's/^#define LEXONDAR_VERSION "\(.*\)"/\1/p' include/lexondar.h)
 prefix := $(abspath $(PREFIX))
 to := $(DESTDIR)$(prefix)
-build := .ci/toolchain && .ci/build library
+build := .ci/build library
 
 .PHONY: all install install-desk uninstall assumed check
 

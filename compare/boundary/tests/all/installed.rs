@@ -205,6 +205,7 @@ fn installing_says_what_is_missing() {
         "toolchain.txt",
         "include/lexondar.h",
         ".ci/toolchain",
+        ".ci/build",
     ];
     for part in parts {
         fs::copy(format!("{ROOT}/{part}"), root.join(part)).expect("a file of the repository");
