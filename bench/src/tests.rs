@@ -3,6 +3,14 @@
 
 use crate::plain_sheet::plain;
 use crate::{agree, bounds, rows, run_sheets, runs, sheets};
+use std::sync::{Mutex, MutexGuard, PoisonError};
+
+/// The C interpreters keep objects and frames in static memory, so a test that
+/// runs them waits for the other.
+fn interpreters() -> MutexGuard<'static, ()> {
+    static TURN: Mutex<()> = Mutex::new(());
+    TURN.lock().unwrap_or_else(PoisonError::into_inner)
+}
 
 fn is_accepted(text: &str) -> bool {
     second::verdict(text.as_bytes()).is_ok()
@@ -73,6 +81,7 @@ fn many_bodies_have_every_part_and_every_instruction() {
 
 #[test]
 fn every_program_runs_the_smaller_sheets_alike() {
+    let _turn = interpreters();
     for work in &run_sheets::WORKS {
         let text = (work.sheet)(run_sheets::COUNTED);
         assert!(runs::steps(text.as_bytes()) > 200, "{}", work.name);
@@ -81,5 +90,6 @@ fn every_program_runs_the_smaller_sheets_alike() {
 
 #[test]
 fn the_c_interpreters_agree_with_the_second_program() {
+    let _turn = interpreters();
     agree::check();
 }
