@@ -1,7 +1,7 @@
 -- Resources, holders of frames, and the slots that a frame adds, by the numbers of the buffer. Assumes nothing.
 use Prim.Native.Nat.{ℕ, suc, ◌+◌, ◌-◌, ◌≤◌, ◌<◌}
 use native.Mathlib.Omega.{arith}
-use mathlib.Core.Path.{◌≡◌, sym, ap, ◌∙◌, subst}
+use mathlib.Core.Path.{◌≡◌, refl, sym, ap, ◌∙◌, subst}
 use mathlib.Core.Bool.{Bool, true, false, cond, ◌&&◌, ◌||◌}
 use mathlib.Core.List.{List, [], ◌∷◌}
 use lib.Dec.{eqb}
@@ -12,11 +12,12 @@ use Rattle.lists.specs.AtPlaces.{at_places}
 use Rattle.lists.proofs.TabLaws.{length-tab, get_or-tab, tab-suc, tab_ext}
 use Rattle.lists.proofs.AtPlacesLaws.{places_same, places_none, places_last}
 use Rattle.sheet_rules.specs.declared.Kind.{Kind}
+use Rattle.sheet_rules.specs.declared.Kind.TheVariants.{Pure, Resource}
 use Rattle.sheet_rules.specs.Sheet.{form_at, row_at, row_of_form, code_names}
 use Rattle.machine_rules.specs.State.{Object, Frame, no_object, object_at}
 use Rattle.authority_rules.specs.Counted.{is_last, top_slots, waiting_slots}
 use Rattle.authority_rules.specs.Authority.{main_holder, is_resource_kind, is_resource, frame_holder, slots_if}
-use Rattle.table.specs.Layout.{frame_address, object_address, state_end, code_notes_at, work_size, slot_address}
+use Rattle.table.specs.Layout.{object_address, state_end, code_notes_at, work_size, slot_address}
 use Rattle.table.specs.View.{cell, instr_in, instrs_in, sheet_in}
 use Rattle.machine_state.specs.declared.Top.{Top}
 use Rattle.machine_state.specs.Held.{object_in, objects_in, slots_in, own_from, frame_from}
@@ -25,6 +26,10 @@ use Rattle.authority_marks.specs.Marked.{Added, numbers_from, noted_from, Small}
 use Rattle.authority_marks.proofs.MarkLaws.{Added-none, Added-or, Added-noted}
 use Rattle.authority.specs.Laid.{Stored, Slots, FrameMarked, last_slot, TopMarked}
 use Rattle.authority.proofs.BelowLaws.{marks_frame, marks_slots}
+
+pub not_resource : (k : Kind) → (k ≡ Resource → ⊥) → false ≡ is_resource_kind k
+not_resource Pure d = refl
+not_resource Resource d = absurd (d refl)
 
 module _ {w : List ℕ} {n : ℕ} (s : Stored w n) where
   -- a number that no object has
@@ -38,13 +43,14 @@ module _ {w : List ℕ} {n : ℕ} (s : Stored w n) where
   object_small o h = omega (arith, s.few)
 
   -- the kind of an object's row
-  pub resource_there : (o : ℕ) → o < n → {f : ℕ} → f ≡ cell w (object_address o) → {r : ℕ} → r ≡ (form_at (sheet_in w) f).row → {q : ℕ} → q ≡ r → {k : Kind} → k ≡ (row_at (sheet_in w).rows q).kind
+  pub resource_there : (o : ℕ) → o < n → {v : List ℕ} → v ≡ w → {f : ℕ} → f ≡ cell w (object_address o) → {r : ℕ} → r ≡ (form_at (sheet_in v) f).row → {q : ℕ} → q ≡ r → {k : Kind} → k ≡ (row_at (sheet_in v).rows q).kind
       → is_resource_kind k ≡ is_resource (sheet_in w) (objects_in (sheet_in w) w n) o
   unfolding is_resource object_in
-  resource_there o h {f} ef er eq ek =
+  resource_there o h ev {f} ef {r} er {q} eq ek =
       let l : length (objects_in (sheet_in w) w n) ≡ n = length-tab (object_in (sheet_in w) w) n in
       let form : f ≡ (object_at (objects_in (sheet_in w) w n) o).form = ef ∙ sym (ap (λ (x : Object). x.form) (get_or-tab (object_in (sheet_in w) w) n o no_object h)) in
-      ap is_resource_kind (ek ∙ ap (λ (x : ℕ). (row_at (sheet_in w).rows x).kind) (eq ∙ er ∙ ap (λ (x : ℕ). (form_at (sheet_in w) x).row) form))
+      ap is_resource_kind (ek ∙ ap (λ (x : List ℕ). (row_at (sheet_in x).rows q).kind) ev
+      ∙ ap (λ (x : ℕ). (row_at (sheet_in w).rows x).kind) (eq ∙ er ∙ ap (λ (x : List ℕ). (form_at (sheet_in x) f).row) ev ∙ ap (λ (x : ℕ). (form_at (sheet_in w) x).row) form))
       ∙ sym (ap (λ (b : Bool). b && is_resource_kind (row_of_form (sheet_in w) (object_at (objects_in (sheet_in w) w n) o).form).kind) (lt-ltb o (length (objects_in (sheet_in w) w n)) (omega arith)))
 
   -- main is a holder; any other number is one if it is a resource
@@ -83,12 +89,12 @@ module _ {w : List ℕ} {n : ℕ} (s : Stored w n) where
     frame_other d =
         record { holder = holder; marked = subst (λ (b : Bool). Added w (slots_if b (waiting_slots (frame_from w f t))) w) (sym (ne_eqb r h d)) (Added-none w) }
 
-    -- the slots that its code names are noted in w₁, and its slots begin after `at` and four
-    module _ (small : f < 64) (slots : Slots w f t.filled) {w₁ : List ℕ} (noted : CodeNoted w (instrs_in w t.next (t.end - t.next)) w₁) {at : ℕ} (e : at ≡ frame_address f) where
-      place : (v : ℕ) → v < t.filled → cell w₁ (at + 4 + v) ≡ cell w (slot_address f v)
-      place v k = let p : at + 4 + v ≡ slot_address f v = omega (arith, slots.few) in noted.only.below (at + 4 + v) (omega (arith, slots.few)) ∙ ap (cell w) p
+    -- the slots that its code names are noted in w₁, and its slots begin at `at`
+    module _ (small : f < 64) (slots : Slots w f t.filled) {w₁ : List ℕ} (noted : CodeNoted w (instrs_in w t.next (t.end - t.next)) w₁) {at : ℕ} (e : at ≡ slot_address f 0) where
+      place : (v : ℕ) → v < t.filled → cell w₁ (at + v) ≡ cell w (slot_address f v)
+      place v k = let p : at + v ≡ slot_address f v = omega (arith, slots.few) in noted.only.below (at + v) (omega (arith, slots.few)) ∙ ap (cell w) p
 
-      pub frame_asks : (at + 4 + t.filled ≤ state_end) × Small w₁ (at + 4) t.filled × (code_notes_at ≤ 27728) × (27728 + t.filled ≤ work_size) × (work_size ≤ length w₁)
+      pub frame_asks : (at + t.filled ≤ state_end) × Small w₁ at t.filled × (code_notes_at ≤ 27728) × (27728 + t.filled ≤ work_size) × (work_size ≤ length w₁)
       frame_asks = (
         omega (arith, slots.few),
         λ v k. subst (λ (x : ℕ). x < 256) (sym (place v k)) (slots.small v k),
@@ -97,13 +103,13 @@ module _ {w : List ℕ} {n : ℕ} (s : Stored w n) where
         omega (arith, noted.only.size, s.whole.size),
       )
 
-      noted_are : noted_from w₁ (at + 4) code_notes_at t.filled ≡ waiting_slots (frame_from w f t)
+      noted_are : noted_from w₁ at code_notes_at t.filled ≡ waiting_slots (frame_from w f t)
       noted_are =
-          places_same (is_noted w₁ code_notes_at) (code_names (instrs_in w t.next (t.end - t.next))) (numbers_from w₁ (at + 4) t.filled)
-          (λ v l. noted.told v (omega (arith, slots.few, length-tab (λ x. cell w₁ (at + 4 + x)) t.filled)))
-          ∙ ap (at_places (code_names (instrs_in w t.next (t.end - t.next)))) (tab_ext (λ v. cell w₁ (at + 4 + v)) (λ v. cell w (slot_address f v)) t.filled place)
+          places_same (is_noted w₁ code_notes_at) (code_names (instrs_in w t.next (t.end - t.next))) (numbers_from w₁ at t.filled)
+          (λ v l. noted.told v (omega (arith, slots.few, length-tab (λ x. cell w₁ (at + x)) t.filled)))
+          ∙ ap (at_places (code_names (instrs_in w t.next (t.end - t.next)))) (tab_ext (λ v. cell w₁ (at + v)) (λ v. cell w (slot_address f v)) t.filled place)
 
-      pub frame_own : r ≡ h → {w' : List ℕ} → Added w₁ (noted_from w₁ (at + 4) 27728 t.filled) w' → FrameMarked w n f t beneath h w' r
+      pub frame_own : r ≡ h → {w' : List ℕ} → Added w₁ (noted_from w₁ at 27728 t.filled) w' → FrameMarked w n f t beneath h w' r
       frame_own same {w'} a =
           record {
             holder = holder;

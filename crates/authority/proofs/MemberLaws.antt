@@ -4,25 +4,25 @@ use native.Mathlib.Omega.{arith}
 use native.Mathlib.Numerals.{add-one}
 use mathlib.Core.Path.{◌≡◌, refl, sym, ap, ◌∙◌, subst}
 use mathlib.Core.Bool.{Bool, true, false, ◌&&◌, ◌||◌, or-false, or_assoc, and_comm}
-use mathlib.Core.List.{List}
+use mathlib.Core.List.{List, [], ◌∷◌}
+use mathlib.Core.Logic.{◌↔◌}
+use Rattle.std.specs.Bool.{IsTrue}
+use Rattle.std.specs.List.{list_all, AllPass}
+use Rattle.std.proofs.lemmas.List.Sums.{AllPass-from_list_all, list_all-from_AllPass}
 use lib.Dec.{T}
 use lib.ListN.{length, get_or, take}
 use lib.Seq.{take_all}
-use borrow.Author.Tests.{le-leb, lt-leb}
 use Rattle.lists.specs.AnyAll.{any, all}
 use Rattle.lists.specs.Contains.{contains}
 use Rattle.lists.specs.Passing.{passing}
 use Rattle.lists.specs.PutAt.{begun}
-use Rattle.lists.proofs.AnyAllLaws.{all-In, any-take, all-take, any-and}
+use Rattle.lists.proofs.AnyAllLaws.{all-In, any-take, any-and}
 use Rattle.lists.proofs.InLaws.{In-get_or}
 use Rattle.lists.proofs.PassingLaws.{passing_same, passing_few}
-use Rattle.lists.proofs.Tests.{T-ext}
 use Rattle.machine_rules.specs.declared.Tally.{Tally}
-use Rattle.machine_rules.specs.State.{Object}
-use Rattle.sheet_rules.specs.Sheet.{Sheet}
 use Rattle.authority_rules.specs.Counted.{usable}
 use Rattle.authority_rules.specs.Authority.{is_resource, is_holder, reached_by, holds_by}
-use Rattle.authority_rules.specs.Group.{group_holds, group_authority, group_limit, is_group}
+use Rattle.authority_rules.specs.Group.{group_holds, group_authority}
 use Rattle.table.specs.View.{sheet_in}
 use Rattle.table.proofs.ViewLaws.{Only-refl, Only-trans}
 use Rattle.machine_state.specs.declared.Top.{Top}
@@ -39,37 +39,20 @@ use Rattle.authority.proofs.ReachLaws.{run_stored}
 
 -- WHETHER A LIST IS A GROUP
 
-module _ (s : Sheet) (os : List Object) (hs : List ℕ) where
-  -- the first i numbers are holders
-  abbrev pub HoldersBefore : ℕ → Type 0
-  HoldersBefore i = all (is_holder s os) (take i hs) ≡ true
+all_list : (p : ℕ → Bool) (xs : List ℕ) → list_all p xs ≡ all p xs
+unfolding all
+all_list p [] = refl
+all_list p (x ∷ xs) = ap (λ (t : Bool). p x && t) (all_list p xs)
 
-  pub holders_start : HoldersBefore 0
-  unfolding all
-  holders_start = refl
+same_truth : (a b : Bool) → (IsTrue a → IsTrue b) → (IsTrue b → IsTrue a) → a ≡ b
+same_truth true b f g = sym (f refl)
+same_truth false true f g = g refl
+same_truth false false f g = refl
 
-  -- h is the number listed at i, and b whether it is a holder
-  module _ (i : ℕ) (l : i < length hs) {h : ℕ} (eh : h ≡ get_or hs i 0) {b : Bool} (eb : b ≡ is_holder s os h) where
-    e : b ≡ is_holder s os (get_or hs i 0)
-    e = eb ∙ ap (is_holder s os) eh
-
-    pub holders_next : HoldersBefore i → b ≡ true → HoldersBefore (i + 1)
-    holders_next before p =
-        ap (λ (x : ℕ). all (is_holder s os) (take x hs)) (add-one i)
-        ∙ all-take (is_holder s os) hs i 0 l
-        ∙ (λ j. before j && (sym e ∙ p) j)
-
-    pub holders_fail : b ≡ false → false ≡ all (is_holder s os) hs
-    holders_fail p = sym (T-ext (all (is_holder s os) hs) false (λ t. subst T (sym e ∙ p) (all-In (is_holder s os) hs t (In-get_or hs i 0 l))) (λ t. absurd t))
-
-  pub holders_end : (i : ℕ) → HoldersBefore i → length hs ≤ i → true ≡ all (is_holder s os) hs
-  holders_end i before l = sym before ∙ ap (all (is_holder s os)) (take_all i hs l)
-
-  pub group_long : group_limit < length hs → false ≡ is_group s os hs
-  group_long l = sym (ap (λ (x : Bool). x && all (is_holder s os) hs) (lt-leb (length hs) group_limit l))
-
-  pub group_short : length hs ≤ group_limit → {b : Bool} → b ≡ all (is_holder s os) hs → b ≡ is_group s os hs
-  group_short l e = e ∙ sym (ap (λ (x : Bool). x && all (is_holder s os) hs) (le-leb (length hs) group_limit l))
+pub all_is : (p : ℕ → Bool) (xs : List ℕ) (b : Bool) → (IsTrue b ↔ AllPass p xs) → b ≡ all p xs
+all_is p xs b h =
+    same_truth b (list_all p xs) (λ e. list_all-from_AllPass p xs (h.0 e)) (λ e. h.1 (AllPass-from_list_all p xs e))
+    ∙ all_list p xs
 
 -- MARKED ONE MEMBER AFTER ANOTHER
 

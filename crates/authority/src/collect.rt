@@ -11,10 +11,7 @@ fn is_reached(work: &[u16], n: usize, b: usize) -> bool
     requires { Stored work.now n × (b < n) }
     ensures { result ≡ is_reached work.now n b }
 {
-    if !is_marked(work, b) {
-        return false;
-    }
-    is_resource(work, n, b)
+    is_marked(work, b) && is_resource(work, n, b)
 }
 
 // Writes b after `count` numbers, if it is a marked resource; answers how many there are then.
@@ -35,10 +32,8 @@ pub fn write_reached(work: &[u16], n: usize, res: &mut [u16]) -> usize
     ensures { Written (is_reached work.now n) n res.old res.new result }
 {
     let mut count: usize = 0;
-    let mut b: usize = 0;
-    while b < n {
+    for b in 0..n {
         count = write_one(work, n, b, res, count);
-        b = b + 1;
     }
     count
 }

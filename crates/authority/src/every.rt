@@ -7,7 +7,7 @@ ghost use Rattle.authority.specs.Laid.{Prepared};
 ghost use Rattle.authority.specs.Every.{every_size, EntriesWritten, if_resource, EveryWritten};
 
 use crate::group::write_group;
-use crate::is_resource;
+use crate::{MAIN_HOLDER, is_resource};
 use machine_rules::Tally;
 use machine_state::{Top, narrow};
 
@@ -55,11 +55,9 @@ pub fn write_every(work: &mut [u16], top: Top, tally: Tally, res: &mut [u16]) ->
     ensures { EveryWritten work.old top tally work.new res.old res.new result }
 {
     let n = tally.objects;
-    let mut at = write_entry(work, top, tally, 256, res, 0);
-    let mut b: usize = 0;
-    while b < n {
+    let mut at = write_entry(work, top, tally, MAIN_HOLDER, res, 0);
+    for b in 0..n {
         at = write_object(work, top, tally, b, res, at);
-        b = b + 1;
     }
     at
 }

@@ -14,19 +14,15 @@ use machine_rules::Tally;
 use machine_state::Top;
 use table::rows::wide;
 
+// How many holders a group has at most.
+const GROUP_LIMIT: usize = 16;
+
 // Whether every number on a list is a holder, among n objects.
 fn are_holders(work: &[u16], n: usize, holders: &[u16]) -> bool
     requires { Stored work.now n }
     ensures { result ≡ all (is_holder (sheet_in work.now) (objects_in (sheet_in work.now) work.now n)) holders.now }
 {
-    let mut i: usize = 0;
-    while i < holders.len() {
-        if !is_holder(work, n, wide(holders[i])) {
-            return false;
-        }
-        i = i + 1;
-    }
-    true
+    holders.iter().all(|&h| is_holder(work, n, wide(h)))
 }
 
 // Whether a list is a group, among n objects: at most 16 numbers, every one a holder.
@@ -34,10 +30,7 @@ pub fn is_group(work: &[u16], n: usize, holders: &[u16]) -> bool
     requires { Stored work.now n }
     ensures { result ≡ is_group (sheet_in work.now) (objects_in (sheet_in work.now) work.now n) holders.now }
 {
-    if 16 < holders.len() {
-        return false;
-    }
-    are_holders(work, n, holders)
+    holders.len() <= GROUP_LIMIT && are_holders(work, n, holders)
 }
 
 // Marks what each of some holders can reach, beside what is marked.
@@ -45,10 +38,8 @@ fn mark_members(work: &mut [u16], top: Top, tally: Tally, holders: &[u16])
     requires { Prepared work.old top tally × T (all (is_holder (sheet_in work.old) (objects_in (sheet_in work.old) work.old tally.objects)) holders.now) }
     ensures { MembersMarked work.old top tally holders.now work.new }
 {
-    let mut i: usize = 0;
-    while i < holders.len() {
-        mark_reached(work, top, tally, wide(holders[i]));
-        i = i + 1;
+    for &h in holders {
+        mark_reached(work, top, tally, wide(h));
     }
 }
 

@@ -10,15 +10,20 @@ ghost use Rattle.authority_marks.specs.Marked.{Added};
 ghost use Rattle.authority.specs.Laid.{Stored, Slots, FrameMarked, last_slot, TopMarked, Below, BelowMarked};
 
 use authority_marks::{mark, mark_noted};
-use machine_state::{Top, form_of, restore, slot};
+use machine_state::{Top, form_of, restore, slot, slot_at};
 use sheet_rules::Kind;
+use table::layout::CODE_NOTES;
 use table::rows::wide;
+use table::sheet::Sheet;
 
 pub mod collect;
 pub mod every;
 pub mod group;
 pub mod own;
 pub mod reach;
+
+// Main's number as a holder: that after the last place of the store.
+pub const MAIN_HOLDER: usize = 256;
 
 // Whether number o is a resource object, among n objects.
 pub fn is_resource(work: &[u16], n: usize, o: usize) -> bool
@@ -28,12 +33,9 @@ pub fn is_resource(work: &[u16], n: usize, o: usize) -> bool
     if n <= o {
         return false;
     }
-    let row = table::forms::form_row(work, form_of(work, o));
-    let kind = table::rows::kind_at(work, wide(row));
-    match kind {
-        Kind::Pure => false,
-        Kind::Resource => true,
-    }
+    let sheet = Sheet::of(work);
+    let row = sheet.form_row(form_of(work, o));
+    matches!(sheet.kind_at(wide(row)), Kind::Resource)
 }
 
 // Whose a frame is, by its receiver's number plus one (0 in main) and the holder of the frame beneath.
@@ -42,7 +44,7 @@ fn frame_holder(work: &[u16], n: usize, own: usize, beneath: usize) -> usize
     ensures { result ≡ frame_holder (sheet_in work.now) (objects_in (sheet_in work.now) work.now n) (own_from own) beneath }
 {
     if own == 0 {
-        return 256;
+        return MAIN_HOLDER;
     }
     if is_resource(work, n, own - 1) {
         return own - 1;
@@ -60,7 +62,7 @@ fn mark_frame(work: &mut [u16], n: usize, f: usize, frame: Top, beneath: usize, 
         return holder;
     }
     slot_notes::note_code(work, frame.next, frame.end);
-    mark_noted(work, machine_state::frame_at(f) + 4, frame.filled, 27728);
+    mark_noted(work, slot_at(f, 0), frame.filled, CODE_NOTES);
     holder
 }
 
@@ -96,12 +98,10 @@ fn mark_below(work: &mut [u16], n: usize, d: usize, h: usize) -> usize
     requires { Stored work.old n × (d < 64) × Below work.old d }
     ensures { BelowMarked work.old n h d work.new result }
 {
-    let mut holder: usize = 256;
-    let mut f: usize = 0;
-    while f < d {
+    let mut holder = MAIN_HOLDER;
+    for f in 0..d {
         let frame = restore(work, f);
         holder = mark_frame(work, n, f, frame, holder, h);
-        f = f + 1;
     }
     holder
 }

@@ -4,7 +4,6 @@ ghost use Rattle.authority_rules.specs.Counted.{usable};
 ghost use Rattle.authority_rules.specs.Authority.{own_values};
 ghost use Rattle.machine_rules.specs.State.{object_at};
 ghost use Rattle.table.specs.View.{sheet_in};
-ghost use Rattle.table.specs.Whole.{Whole};
 ghost use Rattle.machine_places.specs.Placed.{fields_after};
 ghost use Rattle.machine_state.specs.Held.{objects_in, field_count};
 ghost use Rattle.slot_notes.specs.Noted.{FormsNoted};
@@ -12,9 +11,10 @@ ghost use Rattle.authority_marks.specs.Marked.{Added};
 ghost use Rattle.authority.specs.Laid.{Stored, OwnSmall};
 
 use authority_marks::{mark, mark_all, mark_noted};
-use machine_state::{form_of, object_at};
+use machine_state::{field_at, form_of, kept_at};
 use sheet_rules::Member;
 use table::rows::wide;
+use table::sheet::Sheet;
 
 // The fields up to a member, where `fields` come before it.
 fn fields_with(m: Member, fields: usize) -> usize
@@ -28,17 +28,15 @@ fn fields_with(m: Member, fields: usize) -> usize
 }
 
 // How many fields an object of a form has.
-fn field_count(work: &[u16], form: usize) -> usize
-    requires { Whole work.now × (form < length (sheet_in work.now).forms) }
-    ensures { (result ≡ field_count (sheet_in work.now) form) × (result ≤ 8) }
+fn field_count(sheet: &Sheet<'_>, form: usize) -> usize
+    requires { form < length (sheet_in sheet.now).forms }
+    ensures { (result ≡ field_count (sheet_in sheet.now) form) × (result ≤ 8) }
 {
-    let row = wide(table::forms::form_row(work, form));
-    let count = table::rows::members_at(work, row);
+    let row = wide(sheet.form_row(form));
+    let count = sheet.members_at(row);
     let mut fields: usize = 0;
-    let mut j: usize = 0;
-    while j < count {
-        fields = fields_with(table::rows::member(work, row, j), fields);
-        j = j + 1;
+    for j in 0..count {
+        fields = fields_with(sheet.member(row, j), fields);
     }
     fields
 }
@@ -50,13 +48,8 @@ pub fn mark_own(work: &mut [u16], n: usize, h: usize)
 {
     let form = form_of(work, h);
     let kept = table::forms::keeps_of(work, form);
-    let fields = field_count(work, form);
+    let fields = field_count(&Sheet::of(work), form);
     mark(work, h);
-    mark_noted(
-        work,
-        object_at(h) + 1,
-        kept,
-        slot_notes::form_notes(form) + 2,
-    );
-    mark_all(work, object_at(h) + 9, fields);
+    mark_noted(work, kept_at(h, 0), kept, slot_notes::form_notes(form) + 2);
+    mark_all(work, field_at(h, 0), fields);
 }

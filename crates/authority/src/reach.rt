@@ -9,7 +9,7 @@ ghost use Rattle.authority.specs.Laid.{Stored, Prepared};
 ghost use Rattle.authority.specs.Members.{held_state};
 
 use crate::own::mark_own;
-use crate::{is_resource, mark_below, mark_top};
+use crate::{MAIN_HOLDER, is_resource, mark_below, mark_top};
 use machine_rules::Tally;
 use machine_state::Top;
 
@@ -18,10 +18,7 @@ pub fn is_holder(work: &[u16], n: usize, h: usize) -> bool
     requires { Stored work.now n }
     ensures { result ≡ is_holder (sheet_in work.now) (objects_in (sheet_in work.now) work.now n) h }
 {
-    if h == 256 {
-        return true;
-    }
-    is_resource(work, n, h)
+    h == MAIN_HOLDER || is_resource(work, n, h)
 }
 
 // Marks what holder h can reach, beside what is marked: what is its own, and the slots that count of its frames.
@@ -33,7 +30,7 @@ pub fn mark_reached(work: &mut [u16], top: Top, tally: Tally, h: usize)
     let d = tally.frames - 1;
     let beneath = mark_below(work, n, d, h);
     mark_top(work, n, d, top, beneath, h);
-    if h == 256 {
+    if h == MAIN_HOLDER {
         return;
     }
     mark_own(work, n, h);

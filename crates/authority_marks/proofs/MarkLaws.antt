@@ -1,8 +1,13 @@
 -- Marks that are cleared and set, one at a time. Assumes nothing.
-use Prim.Native.Nat.{ℕ, suc, ◌+◌, ◌≤◌, ◌<◌}
+use Prim.Native.Nat.{ℕ, ◌+◌, ◌≤◌, ◌<◌}
 use native.Mathlib.Omega.{arith}
+use borrow.Rule.Slice.PartMut.{put_mid}
+use Rattle.std.proofs.Common.{rules, replicate}
+use Rattle.std.specs.List.{between}
+use Rattle.std.proofs.lemmas.List.{places}
+use Rattle.std.proofs.lemmas.List.Edits.{length-between}
 use native.Mathlib.Numerals.{add-one}
-use native.Mathlib.Decide.{dec_le, ℕ_discrete}
+use native.Mathlib.Decide.{ℕ_discrete}
 use mathlib.Core.Path.{◌≡◌, refl, sym, ap, ◌∙◌, subst}
 use mathlib.Core.Bool.{Bool, false, ◌||◌, or-true, or-false, or_assoc, or_comm}
 use mathlib.Core.List.{List, [], ◌∷◌, ◌++◌}
@@ -21,43 +26,36 @@ use Rattle.table.specs.View.{cell}
 use Rattle.table.specs.Only.{Only}
 use Rattle.slot_notes.specs.Noted.{is_noted, NotesOnly}
 use Rattle.table.proofs.ViewLaws.{Only-refl, Only-trans, Only-widen, Only-set}
-use Rattle.authority_marks.specs.Marked.{MarksOnly, is_marked, MarksCleared, Added, MarkedIf, numbers_from, noted_from, Small}
+use Rattle.authority_marks.specs.Marked.{is_marked, MarksCleared, Added, MarkedIf, numbers_from, noted_from}
 
 -- CLEARED
 
--- the first n marks are cleared
-pub record Clearing (w w' : List ℕ) (n : ℕ) : Type 0 where
-  pub only : MarksOnly w w'
-  pub none : (b : ℕ) → b < n → cell w' (state_end + b) ≡ 0
+-- CLEARED: a part filled with zeros, at any place
 
-pub Clearing-start : (w : List ℕ) → Clearing w w 0
-Clearing-start w = record { only = Only-refl state_end marks_end w; none = λ b h. absurd (omega arith) }
+module _ (a n : ℕ) (w ys : List ℕ) (h : a + n ≤ length w) (e : ys ≡ replicate n 0) where
+  filled_only : Only a (a + n) w (put_mid a n w ys)
+  filled_only =
+      record {
+        size = search (rules, places);
+        below = λ i l. search (rules, places);
+        above = λ i l. search (rules, places);
+      }
 
-pub Clearing-size : (w w' : List ℕ) (n : ℕ) → Clearing w w' n → work_size ≤ length w → work_size ≤ length w'
-Clearing-size w w' n c s = omega (arith, c.only.size)
+  filled_here : (b : ℕ) → b < n → cell (put_mid a n w ys) (a + b) ≡ 0
+  filled_here b l = search (rules, places)
 
-pub Clearing-next : (w w₁ : List ℕ) (n : ℕ) → Clearing w w₁ n → n < 256 → work_size ≤ length w → Clearing w (set w₁ (state_end + n) 0) (n + 1)
-Clearing-next w w₁ n c h s =
+-- no mark is left
+pub marks_cleared : (w ys : List ℕ) → work_size ≤ length w → ys ≡ replicate (length (between state_end code_notes_at w)) 0 → MarksCleared w (put_mid state_end 256 w ys)
+marks_cleared w ys s e =
     record {
-      only = Only-trans c.only (Only-set state_end marks_end w₁ (state_end + n) 0 (omega arith) (omega arith));
-      none = λ b k. go b k (dec_le (suc b) n);
+      only = Only-widen (omega arith) (omega arith) (filled_only state_end 256 w ys (omega arith) zeros);
+      told = λ b h.
+          (let at : mark_address b ≡ state_end + b = omega arith in
+          ap (λ (x : ℕ). eqb x 1) (ap (cell (put_mid state_end 256 w ys)) at ∙ filled_here state_end 256 w ys (omega arith) zeros b h));
     }
   where
-    go : (b : ℕ) → b < n + 1 → Dec (suc b ≤ n) → cell (set w₁ (state_end + n) 0) (state_end + b) ≡ 0
-    go b k (yes p) = get_or-set_other w₁ (state_end + n) (state_end + b) 0 0 (omega arith) ∙ c.none b p
-    go b k (no p) =
-        let e : b ≡ n = omega arith in
-        ap (λ (x : ℕ). cell (set w₁ (state_end + n) 0) (state_end + x)) e
-        ∙ get_or-set_same w₁ (state_end + n) 0 0 (omega (arith, c.only.size))
-
-pub Clearing-end : (w w' : List ℕ) (n : ℕ) → Clearing w w' n → 256 ≤ n → MarksCleared w w'
-Clearing-end w w' n c h =
-    record {
-      only = c.only;
-      told = λ b k.
-          (let e : mark_address b ≡ state_end + b = omega arith in
-          ap (λ (x : ℕ). eqb x 1) (ap (cell w') e ∙ c.none b (omega arith)));
-    }
+    zeros : ys ≡ replicate 256 0
+    zeros = e ∙ ap (λ (n : ℕ). replicate n 0) (length-between w state_end code_notes_at (omega arith))
 
 -- ADDED
 
@@ -112,21 +110,21 @@ Added-noted {xs = xs} o a =
     }
 
 -- one number
-pub Added-one : (w : List ℕ) (v : ℕ) → v < 256 → work_size ≤ length w → Added w (v ∷ []) (set w (state_end + v) 1)
+pub Added-one : (w : List ℕ) (v : ℕ) → v < 256 → work_size ≤ length w → Added w (v ∷ []) (set w (mark_address v) 1)
 unfolding contains
 Added-one w v h s =
     record {
-      only = Only-set state_end marks_end w (state_end + v) 1 (omega arith) (omega arith);
+      only = Only-set state_end marks_end w (mark_address v) 1 (omega arith) (omega arith);
       told = λ b k. go b k (ℕ_discrete v b);
     }
   where
-    go : (b : ℕ) → b < 256 → Dec (v ≡ b) → eqb (cell (set w (state_end + v) 1) (mark_address b)) 1 ≡ (is_marked w b || (eqb v b || false))
+    go : (b : ℕ) → b < 256 → Dec (v ≡ b) → eqb (cell (set w (mark_address v) 1) (mark_address b)) 1 ≡ (is_marked w b || (eqb v b || false))
     go b k (yes e) =
-        let p : mark_address b ≡ state_end + v = omega arith in
-        ap (λ (x : ℕ). eqb x 1) (ap (cell (set w (state_end + v) 1)) p ∙ get_or-set_same w (state_end + v) 1 0 (omega arith))
+        let p : mark_address b ≡ mark_address v = ap mark_address (sym e) in
+        ap (λ (x : ℕ). eqb x 1) (ap (cell (set w (mark_address v) 1)) p ∙ get_or-set_same w (mark_address v) 1 0 (omega arith))
         ∙ sym (ap (λ (t : Bool). is_marked w b || (t || false)) (eq-eqb v b e) ∙ or-true (is_marked w b))
     go b k (no d) =
-        ap (λ (x : ℕ). eqb x 1) (get_or-set_other w (state_end + v) (mark_address b) 1 0 (λ q. d (omega arith)))
+        ap (λ (x : ℕ). eqb x 1) (get_or-set_other w (mark_address v) (mark_address b) 1 0 (λ q. d (omega arith)))
         ∙ sym (ap (λ (t : Bool). is_marked w b || (t || false)) (ne_eqb v b d) ∙ or-false (is_marked w b))
 
 -- the loop over places
@@ -136,20 +134,12 @@ module _ (w : List ℕ) (at : ℕ) where
   unfolding tab
   marking_start = Added-none w
 
-  pub marking_size : (w₁ : List ℕ) (i : ℕ) → Added w (numbers_from w at i) w₁ → work_size ≤ length w → work_size ≤ length w₁
-  marking_size w₁ i m s = omega (arith, m.only.size)
-
-  module _ (w₁ : List ℕ) (i v : ℕ) (m : Added w (numbers_from w at i) w₁) (h : at + i < state_end) (small : cell w (at + i) < 256) (ev : v ≡ cell w₁ (at + i)) where
+  module _ (w₁ : List ℕ) (i v : ℕ) (m : Added w (numbers_from w at i) w₁) (h : at + i < state_end) (ev : v ≡ cell w₁ (at + i)) where
     v_is : v ≡ cell w (at + i)
     v_is = ev ∙ m.only.below (at + i) h
 
-    pub marking_small : v < 256
-    marking_small = omega (arith, v_is)
-
-    pub marking_next : work_size ≤ length w → (w₂ : List ℕ) → w₂ ≡ set w₁ (state_end + v) 1 → Added w (numbers_from w at (i + 1)) w₂
-    marking_next s w₂ ew =
-        subst (λ (xs : List ℕ). Added w xs w₂) joined
-        (Added-after w w₁ w₂ (numbers_from w at i) (v ∷ []) m (subst (Added w₁ (v ∷ [])) (sym ew) (Added-one w₁ v marking_small (marking_size w₁ i m s))))
+    pub marking_next : (w₂ : List ℕ) → Added w₁ (v ∷ []) w₂ → Added w (numbers_from w at (i + 1)) w₂
+    marking_next w₂ a = subst (λ (xs : List ℕ). Added w xs w₂) joined (Added-after w w₁ w₂ (numbers_from w at i) (v ∷ []) m a)
       where
         joined : numbers_from w at i ++ (v ∷ []) ≡ numbers_from w at (i + 1)
         joined =
@@ -164,14 +154,15 @@ module _ (w : List ℕ) (v x : ℕ) where
   pub marked_not : (x ≡ 1 → ⊥) → MarkedIf (eqb x 1) w v w
   marked_not d = record { only = Only-refl state_end code_notes_at w; added = subst (λ (b : Bool). Added w (add_if b v []) w) (sym (ne_eqb x 1 d)) (Added-none w) }
 
-  pub marked_one : x ≡ 1 → {u : ℕ} → u ≡ v → v < 256 → work_size ≤ length w → MarkedIf (eqb x 1) w v (set w (state_end + u) 1)
-  marked_one e {u} eu h s =
-      record {
-        only = Only-set state_end code_notes_at w (state_end + u) 1 (omega arith) (omega arith);
+  pub marked_one : x ≡ 1 → {u : ℕ} → u ≡ v → v < 256 → work_size ≤ length w → {w' : List ℕ} → w' ≡ set w (mark_address u) 1 → MarkedIf (eqb x 1) w v w'
+  marked_one e {u} eu h s ew =
+      subst (MarkedIf (eqb x 1) w v) (sym ew)
+      (record {
+        only = Only-set state_end code_notes_at w (mark_address u) 1 (omega arith) (omega arith);
         added =
-            subst (λ (b : Bool). Added w (add_if b v []) (set w (state_end + u) 1)) (sym (eq-eqb x 1 e))
-            (subst (λ (y : ℕ). Added w (y ∷ []) (set w (state_end + u) 1)) eu (Added-one w u (omega arith) s));
-      }
+            subst (λ (b : Bool). Added w (add_if b v []) (set w (mark_address u) 1)) (sym (eq-eqb x 1 e))
+            (subst (λ (y : ℕ). Added w (y ∷ []) (set w (mark_address u) 1)) eu (Added-one w u (omega arith) s));
+      })
 
 -- the loop over places
 pub record Noting (w : List ℕ) (at notes n : ℕ) (w' : List ℕ) : Type 0 where
@@ -183,15 +174,6 @@ unfolding tab at_places
 Noting-start w at notes = record { only = Only-refl state_end code_notes_at w; added = Added-none w }
 
 module _ {w : List ℕ} {at notes i : ℕ} {w₁ : List ℕ} (m : Noting w at notes i w₁) where
-  pub noting_asks : {count : ℕ} → (at + count ≤ state_end) × Small w at count × (code_notes_at ≤ notes) × (notes + count ≤ work_size) × (work_size ≤ length w) → i < count
-      → (at + i < state_end) × (cell w₁ (at + i) < 256) × (notes + i < work_size) × (work_size ≤ length w₁)
-  noting_asks p l = (
-    omega (arith, p.0),
-    subst (λ (x : ℕ). x < 256) (sym (m.only.below (at + i) (omega (arith, p.0)))) (p.1 i l),
-    omega (arith, p.3),
-    omega (arith, p.4, m.only.size),
-  )
-
   pub Noting-next : at + i < state_end → code_notes_at ≤ notes → {w₂ : List ℕ} → MarkedIf (eqb (cell w₁ (notes + i)) 1) w₁ (cell w₁ (at + i)) w₂ → Noting w at notes (i + 1) w₂
   Noting-next l above {w₂} k =
       record {
@@ -205,6 +187,3 @@ module _ {w : List ℕ} {at notes i : ℕ} {w₁ : List ℕ} (m : Noting w at no
           ∙ ap (λ (n : ℕ). noted_from w at notes i ++ add_if (is_noted w notes n) (cell w (at + i)) []) (sym (length-tab (λ j. cell w (at + j)) i))
           ∙ sym (places_snoc (is_noted w notes) (numbers_from w at i) (cell w (at + i)))
           ∙ ap (at_places (is_noted w notes)) (sym (tab-suc (λ j. cell w (at + j)) i) ∙ ap (numbers_from w at) (sym (add-one i)))
-
-  pub noting_end : {count : ℕ} → i ≤ count → count ≤ i → Added w (noted_from w at notes count) w₁
-  noting_end {count} l u = let e : i ≡ count = omega arith in subst (λ (n : ℕ). Added w (noted_from w at notes n) w₁) e m.added

@@ -1,11 +1,12 @@
 // Marks on numbers below 256, in the work buffer's spare room: which objects a holder can reach.
 #![tactic(auto)]
 
-ghost use Rattle.std.specs.Prelude.{◌≡◌, ◌<◌, ◌+◌, ◌≤◌, [], ◌∷◌, eqb, length};
-ghost use Rattle.table.specs.Layout.{state_end, code_notes_at, work_size};
+ghost use Rattle.std.specs.Prelude.{◌≡◌, ◌<◌, ◌+◌, ◌≤◌, [], ◌∷◌, eqb, length, set};
+ghost use Rattle.table.specs.Layout.{state_end, mark_address, code_notes_at, work_size};
 ghost use Rattle.table.specs.View.{cell};
 ghost use Rattle.authority_marks.specs.Marked.{is_marked, MarksCleared, Added, MarkedIf, numbers_from, noted_from, Small};
 
+use table::layout::{MARK_COUNT, MARKS};
 use table::rows::wide;
 
 // No number is marked.
@@ -13,11 +14,15 @@ pub fn clear_marks(work: &mut [u16])
     requires { work_size ≤ length work.old }
     ensures { MarksCleared work.old work.new }
 {
-    let mut i: usize = 0;
-    while i < 256 {
-        work[27472 + i] = 0;
-        i = i + 1;
-    }
+    work[MARKS..MARKS + MARK_COUNT].fill(0);
+}
+
+// Sets the mark of a number.
+fn put_mark(work: &mut [u16], v: usize)
+    requires { (v < 256) × (work_size ≤ length work.old) }
+    ensures { work.new ≡ set work.old (mark_address v) 1 }
+{
+    work[MARKS + v] = 1;
 }
 
 // Marks the numbers that stand in `count` places from `at` on.
@@ -25,11 +30,9 @@ pub fn mark_all(work: &mut [u16], at: usize, count: usize)
     requires { (at + count ≤ state_end) × Small work.old at count × (work_size ≤ length work.old) }
     ensures { Added work.old (numbers_from work.old at count) work.new }
 {
-    let mut i: usize = 0;
-    while i < count {
+    for i in 0..count {
         let v = wide(work[at + i]);
-        work[27472 + v] = 1;
-        i = i + 1;
+        mark(work, v);
     }
 }
 
@@ -40,7 +43,7 @@ fn mark_if_noted(work: &mut [u16], at: usize, note: usize)
 {
     if work[note] == 1 {
         let v = wide(work[at]);
-        work[27472 + v] = 1;
+        put_mark(work, v);
     }
 }
 
@@ -49,10 +52,8 @@ pub fn mark_noted(work: &mut [u16], at: usize, count: usize, notes: usize)
     requires { (at + count ≤ state_end) × Small work.old at count × (code_notes_at ≤ notes) × (notes + count ≤ work_size) × (work_size ≤ length work.old) }
     ensures { Added work.old (noted_from work.old at notes count) work.new }
 {
-    let mut i: usize = 0;
-    while i < count {
+    for i in 0..count {
         mark_if_noted(work, at + i, notes + i);
-        i = i + 1;
     }
 }
 
@@ -61,7 +62,7 @@ pub fn mark(work: &mut [u16], v: usize)
     requires { (v < 256) × (work_size ≤ length work.old) }
     ensures { Added work.old (v ∷ []) work.new }
 {
-    work[27472 + v] = 1;
+    put_mark(work, v);
 }
 
 // Whether a number is marked.
@@ -69,5 +70,5 @@ pub fn is_marked(work: &[u16], v: usize) -> bool
     requires { (v < 256) × (work_size ≤ length work.now) }
     ensures { result ≡ is_marked work.now v }
 {
-    work[27472 + v] == 1
+    work[MARKS + v] == 1
 }

@@ -12,7 +12,10 @@ use Rattle.sheet_rules.specs.declared.Reason.{Reason}
 use Rattle.sheet_rules.specs.declared.Reason.TheVariants.{NoHolder}
 use Rattle.sheet_rules.specs.declared.Verdict.{Verdict}
 use Rattle.machine_rules.specs.Steps.{Ran, ended, run}
-use Rattle.authority_rules.specs.declared.AuthorityReply.{AuthorityReply}
+use Rattle.sheet_rules.specs.Answers.{turned_away}
+use Rattle.sheet_rules.specs.declared.Refusal.{Refusal}
+use Rattle.std.specs.declared.result.Result.TheVariants.{Ok}
+use Rattle.std.specs.declared.result.Result.{Result}
 use Rattle.authority_rules.specs.Authority.{is_holder}
 use Rattle.authority_rules.specs.AuthorityQuestion.{Held, held, not_held}
 use Rattle.authority_rules.specs.Group.{group_authority, group_limit, is_group, group_in, group_held}
@@ -55,7 +58,7 @@ module _ {w : List ℕ} {budget : ℕ} {w₁ : List ℕ} {halt : Halt} (s : Note
         sym (λ i. group_in (run_sheet_same i) (sym run-last i) hs)
         ∙ ap (λ (b : Bool). cond b (held (group_authority (sheet_in w₁) (halted_state w₁ halt) hs)) (not_held NoHolder 0)) (sym e)
 
-    pub no_group : q ≡ false → (result : List ℕ) → HeldTold (group_in (sheet_in w) (run (sheet_in w) budget).last hs) w result w₁ result (AuthorityReply.Refused NoHolder 0)
+    pub no_group : q ≡ false → (result : List ℕ) → HeldTold (group_in (sheet_in w) (run (sheet_in w) budget).last hs) w result w₁ result (turned_away NoHolder 0)
     no_group p result =
         record {
           same = sym (ap held_reply x);
@@ -71,10 +74,10 @@ module _ {w : List ℕ} {budget : ℕ} {w₁ : List ℕ} {halt : Halt} (s : Note
     group_holders p = and_right (leb (length hs) group_limit) (all (is_holder (sheet_in w₁) (halted_state w₁ halt).objects) hs) (true→T _ (sym e ∙ p))
 
     pub group_told : q ≡ true → {result w' result' : List ℕ} {c : ℕ} → GroupWritten w₁ halt.top halt.tally hs w' result result' c
-        → {c' : ℕ} → c' ≡ c → HeldTold (group_in (sheet_in w) (run (sheet_in w) budget).last hs) w result w' result' (AuthorityReply.Holds c')
+        → {c' : ℕ} → c' ≡ c → HeldTold (group_in (sheet_in w) (run (sheet_in w) budget).last hs) w result w' result' (Ok c')
     group_told p {result} a ec =
         record {
-          same = ap AuthorityReply.Holds (ec ∙ a.counted) ∙ sym (ap held_reply x);
+          same = ap Ok (ec ∙ a.counted) ∙ sym (ap held_reply x);
           written = a.left ∙ sym (ap (λ (y : Held). begun (held_numbers y) result) x);
           only = Only-trans (Only-widen (omega arith) (omega arith) s.only) (Only-widen (omega arith) (omega arith) a.only);
         }
@@ -84,17 +87,17 @@ module _ {w : List ℕ} {budget : ℕ} {w₁ : List ℕ} {halt : Halt} (s : Note
 
 -- a text: refused, or accepted and run
 module _ {text w w₁ : List ℕ} {v : Verdict} (j : TextJudged text w w₁ v) (budget : ℕ) (hs : List ℕ) {result : List ℕ} where
-  pub held_refused : {q : Reason} {l : ℕ} → v ≡ Verdict.Refused q l → HeldTold (group_held text budget hs) w result w₁ result (AuthorityReply.Refused q l)
+  pub held_refused : {q : Reason} {l : ℕ} → v ≡ Verdict.Refused q l → HeldTold (group_held text budget hs) w result w₁ result (turned_away q l)
   unfolding group_held
   held_refused e = Told-refused not_held (λ s. group_in s (run s budget).last hs) held_reply held_numbers j (λ p n. refl) e
 
-  pub held_accepted : v ≡ Verdict.Accepted → {w' result' : List ℕ} {r : AuthorityReply} → HeldTold (group_in (sheet_in w₁) (run (sheet_in w₁) budget).last hs) w₁ result w' result' r
+  pub held_accepted : v ≡ Verdict.Accepted → {w' result' : List ℕ} {r : Result ℕ Refusal} → HeldTold (group_in (sheet_in w₁) (run (sheet_in w₁) budget).last hs) w₁ result w' result' r
       → HeldTold (group_held text budget hs) w result w' result' r
   unfolding group_held
   held_accepted e t = Told-accepted not_held (λ s. group_in s (run s budget).last hs) held_reply held_numbers j e t
 
 -- one holder: the list of its number
-pub one_asked : (text : List ℕ) (budget h : ℕ) {g : ℕ} → g ≡ min h 257 → {w result w' result' : List ℕ} {r : AuthorityReply}
+pub one_asked : (text : List ℕ) (budget h : ℕ) {g : ℕ} → g ≡ min h 257 → {w result w' result' : List ℕ} {r : Result ℕ Refusal}
     → GroupAsked text budget (g ∷ []) w result w' result' r → AuthorityAsked text budget h w result w' result' r
 one_asked text budget h e {w} {result} {w'} {result'} {r} a =
     subst (λ (x : Held). HeldAsked x w result w' result' r) (ap (λ (x : ℕ). group_held text budget (x ∷ [])) e ∙ listed_held text budget h) a

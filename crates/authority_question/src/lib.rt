@@ -12,10 +12,10 @@ ghost use Rattle.authority_question.specs.Noted.{NotedRun};
 ghost use Rattle.authority_question.specs.Asked.{HeldTold, GroupAsked, AuthorityAsked};
 
 use authority::group::{is_group, write_group};
-use authority_rules::AuthorityReply;
 use machine::Halt;
 use machine_state::narrow;
-use sheet_rules::{Reason, Verdict};
+use sheet_rules::{Reason, Refusal};
+use verdict_question::judge_text;
 
 pub mod report;
 
@@ -30,41 +30,16 @@ fn run_noted(work: &mut [u16], budget: u32) -> Halt
 }
 
 // The reply for the sheet that the buffer holds: holders are looked for after the run.
-fn held_in(work: &mut [u16], budget: u32, holders: &[u16], res: &mut [u16]) -> AuthorityReply
+fn held_in(work: &mut [u16], budget: u32, holders: &[u16], res: &mut [u16]) -> Result<u16, Refusal>
     requires { AcceptedIn work.old × (256 ≤ length res.old) }
     ensures { HeldTold (group_in (sheet_in work.old) (run (sheet_in work.old) budget).last holders.now) work.old res.old work.new res.new result }
 {
     let halt = run_noted(work, budget);
-    let top = halt.top;
-    let tally = halt.tally;
-    if !is_group(work, tally.objects, holders) {
-        return AuthorityReply::Refused {
-            reason: Reason::NoHolder,
-            line: 0,
-        };
+    if !is_group(work, halt.tally.objects, holders) {
+        return Err(Reason::NoHolder.at(0));
     }
-    let count = write_group(work, top, tally, holders, res);
-    AuthorityReply::Holds {
-        count: narrow(count),
-    }
-}
-
-// The reply for a text, in buffers that are long enough.
-fn held_of(
-    text: &[u8],
-    budget: u32,
-    holders: &[u16],
-    work: &mut [u16],
-    res: &mut [u16],
-) -> AuthorityReply
-    requires { (work_size ≤ length work.old) × (256 ≤ length res.old) }
-    ensures { HeldTold (group_held text.now budget holders.now) work.old res.old work.new res.new result }
-{
-    let judged = verdict_question::judge_text(text, work);
-    match judged {
-        Verdict::Accepted => held_in(work, budget, holders, res),
-        Verdict::Refused { reason, line } => AuthorityReply::Refused { reason, line },
-    }
+    let count = write_group(work, halt.top, halt.tally, holders, res);
+    Ok(narrow(count))
 }
 
 // What a list of holders holds together after the run of a text's sheet within a budget: written ascending to the result buffer,
@@ -75,28 +50,30 @@ pub fn ask_group(
     holders: &[u16],
     work: &mut [u16],
     res: &mut [u16],
-) -> AuthorityReply
+) -> Result<u16, Refusal>
     ensures { GroupAsked text.now budget holders.now work.old res.old work.new res.new result }
 {
-    if !question::enough(work.len(), 256, res.len()) {
-        return AuthorityReply::Refused {
-            reason: Reason::BufferTooShort,
-            line: 0,
-        };
-    }
-    let reply = held_of(text, budget, holders, work, res);
-    question::clear(work);
-    reply
+    let short = Err(Reason::BufferTooShort.at(0));
+    question::ask_into(
+        work,
+        res,
+        256,
+        short,
+        |work: &mut [u16], res: &mut [u16]| -> Result<u16, Refusal>
+            requires { (work_size ≤ length work.now) × (256 ≤ length res.now) }
+            ensures { HeldTold (group_held text.entry.now budget holders.entry.now) work.entry.now res.entry.now work.exit.now res.exit.now result }
+        {
+            judge_text(text, work).told()?;
+            held_in(work, budget, holders, res)
+        },
+    )
 }
 
 // A holder's number as it is listed: no number over 256 is a holder, so 257 stands for all of them.
 fn listed(h: usize) -> u16
     ensures { result ≡ min h 257 }
 {
-    if 256 < h {
-        return 257;
-    }
-    narrow(h)
+    narrow(h.min(257))
 }
 
 // The authority of holder h: what a list of this one number is answered.
@@ -106,7 +83,7 @@ pub fn ask_authority(
     h: usize,
     work: &mut [u16],
     res: &mut [u16],
-) -> AuthorityReply
+) -> Result<u16, Refusal>
     ensures { AuthorityAsked text.now budget h work.old res.old work.new res.new result }
 {
     let holders: [u16; 1] = [listed(h)];

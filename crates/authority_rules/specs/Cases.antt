@@ -5,7 +5,10 @@ use Prim.Native.String.{String}
 use Rattle.sheet_rules.specs.Answers.{number_of, verdict_number, verdict_line}
 use Rattle.sheet_rules.specs.Samples.{text_of, with_line, P, L}
 use Rattle.type_rules.specs.Typing.{verdict}
-use Rattle.machine_rules.specs.declared.RunReply.{RunReply}
+use Rattle.machine_rules.specs.declared.RunAnswer.{RunAnswer}
+use Rattle.sheet_rules.specs.declared.Refusal.{Refusal}
+use Rattle.std.specs.declared.result.Result.TheVariants.{Ok, Err}
+use Rattle.std.specs.declared.result.Result.{Result}
 use Rattle.machine_rules.specs.Steps.{run_reply, outcome_number}
 use Rattle.authority_rules.specs.AuthorityQuestion.{Held, held, not_held, authority_held}
 use Rattle.authority_rules.specs.Group.{group_held}
@@ -19,9 +22,9 @@ pub data Question : Type 0 where
 
 -- what is printed of an answer: the refusal's number and line, or 0, 0 and the run's outcome and steps, or the authority
 -- (One sheet in full)
-abbrev pub run_shown : RunReply → List ℕ
-run_shown (RunReply.Ran a) = 0 ∷ 0 ∷ outcome_number a.outcome ∷ a.steps ∷ []
-run_shown (RunReply.Refused r n) = number_of r ∷ n ∷ []
+abbrev pub run_shown : Result RunAnswer Refusal → List ℕ
+run_shown (Ok a) = 0 ∷ 0 ∷ outcome_number a.outcome ∷ a.steps ∷ []
+run_shown (Err e) = number_of e.reason ∷ e.line ∷ []
 
 -- and of an authority answer (One sheet in full)
 abbrev pub held_shown : Held → List ℕ

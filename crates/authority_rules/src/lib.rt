@@ -1,4 +1,4 @@
-// Who holds what. The rules are in specs/; these are the types that the questions answer with, and the rules' theorems as promises
+// Who holds what. The rules are in specs/; here are the type that the report answers with, and the rules' theorems as promises
 // of functions that do nothing, so that none can go unproved.
 #![tactic(auto)]
 
@@ -7,20 +7,12 @@ ghost use Rattle.authority_rules.specs.GroupGain.{GroupGuaranteed};
 ghost use Rattle.authority_rules.specs.Origin.{Originates};
 
 use machine_rules::RunAnswer;
-use sheet_rules::Reason;
 
-// What the authority question answers: how many numbers it wrote, or a refusal with its line.
-#[derive(Clone, Copy)]
-pub enum AuthorityReply {
-    Holds { count: u16 },
-    Refused { reason: Reason, line: u32 },
-}
-
-// What the report answers: the run's answer and how many numbers it wrote, or a refusal with its line.
-#[derive(Clone, Copy)]
-pub enum ReportReply {
-    Reported { answer: RunAnswer, count: u32 },
-    Refused { reason: Reason, line: u32 },
+// What the report answers: the run's answer, and how many numbers it wrote.
+#[derive(Clone, Copy, Debug, PartialEq, Eq)]
+pub struct Reported {
+    pub answer: RunAnswer,
+    pub count: u32,
 }
 
 // The guarantee: every accepted text, every number of steps.

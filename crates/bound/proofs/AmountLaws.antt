@@ -43,7 +43,7 @@ module _ {w xs : List ℕ} {start count j amount : ℕ} (g : Summing w xs start 
   count_is = length-tab (λ i. instr_in w (start + i)) count
 
   pub Summing-next : j < count → {at : ℕ} → at ≡ start → {added : ℕ} → added ≡ called_amount xs (called_name (instr_in w (at + j))) → added ≤ amount_limit
-      → Summing w xs start count (j + 1) (amount + 1 + added)
+      → Summing w xs start count (j + 1) (amount + (1 + added))
   unfolding code_amount
   Summing-next l {at} e {added} told small =
       record {

@@ -17,13 +17,16 @@ use Rattle.sheet_rules.specs.Sheet.{Instr, copy, called_name, Part, init, body, 
 use Rattle.type_rules.specs.SlotRows.{Own, members_at, body_rows, rows_after}
 use Rattle.type_rules.specs.Typing.{Fault, unless, code_faults, part_faults, parts_faults, keep_faults, form_faults, forms_faults, line_faults, first_form_line}
 use Rattle.type_rules.proofs.TypedLaws.{first_fault_accepts}
-use Rattle.table.specs.View.{instr_in, instrs_in, member_in, part_in, sheet_in}
+use Rattle.table.specs.View.{instr_in, instrs_in, part_in, sheet_in}
 use Rattle.table.specs.declared.forms.PartPlace.{PartPlace}
 use Rattle.table.specs.Told.{part_told}
 use Rattle.table.specs.Whole.{Whole}
 use Rattle.table.proofs.SheetLaws.{parts-Pairwise, form_well}
-use Rattle.code_typing.specs.declared.Walked.{Walked}
-use Rattle.code_typing.specs.Walk.{walk, walk_on, walk_verdict}
+use Rattle.std.specs.declared.result.Result.{Result}
+use Rattle.std.specs.declared.result.Result.TheVariants.{Ok, Err}
+use Rattle.sheet_rules.specs.declared.Refusal.{Refusal}
+use Rattle.sheet_rules.specs.Answers.{verdict_from}
+use Rattle.code_typing.specs.Walk.{walk, walk_on}
 use Rattle.code_typing.proofs.WalkLaws.{walk_none, walk_good, walk-append, walk_verdict_lem}
 use Rattle.form_typing.specs.Told.{PlaceSmall, an_init, a_body}
 use Rattle.form_typing.proofs.PartsLaws.{parts_lines}
@@ -77,15 +80,15 @@ module _ (w : List ℕ) (line : ℕ) {m m' : Member} {p p' : PartPlace} (em : m 
   by_case = ap₂ (λ (x : Member) (y : PartPlace). walk line (part_calls x (part_told w y))) (sym em) (sym ep)
 
   -- a part of another kind than its member has no line
-  pub part_none : part_calls m' (part_told w p') ≡ [] → Walked.On line ≡ walk line (part_calls m (part_told w p))
+  pub part_none : part_calls m' (part_told w p') ≡ [] → Ok line ≡ walk line (part_calls m (part_told w p))
   part_none e = sym (walk_none line) ∙ ap (walk line) (sym e) ∙ by_case
 
   -- an `init` line is passed over
-  pub part_init : part_calls m' (part_told w p') ≡ none ∷ [] → Walked.On (line + 1) ≡ walk line (part_calls m (part_told w p))
+  pub part_init : part_calls m' (part_told w p') ≡ none ∷ [] → Ok (line + 1) ≡ walk line (part_calls m (part_told w p))
   part_init e = sym (walk_none (line + 1)) ∙ walk_good line [] ∙ ap (walk line) (sym e) ∙ by_case
 
 -- and so is a `body` line, before its instructions
-pub part_body : (w : List ℕ) (line : ℕ) {m : Member} {p : PartPlace} {n a r start count : ℕ} → m ≡ Method n a r → p ≡ PartPlace.Body start count → {k : ℕ} → k ≡ count → {x : Walked}
+pub part_body : (w : List ℕ) (line : ℕ) {m : Member} {p : PartPlace} {n a r start count : ℕ} → m ≡ Method n a r → p ≡ PartPlace.Body start count → {k : ℕ} → k ≡ count → {x : Result ℕ Refusal}
     → x ≡ walk (line + 1) (code_calls n (instrs_in w start k)) → x ≡ walk line (part_calls m (part_told w p))
 part_body w line {n = n} {start = start} em ep {k} e told =
     told ∙ walk_good line (code_calls n (instrs_in w start k)) ∙ ap (λ (c : ℕ). walk line (none ∷ code_calls n (instrs_in w start c))) e ∙ by_case w line em ep
@@ -106,7 +109,7 @@ module _ {w : List ℕ} (h : Whole w) {f : ℕ} (l : f < length (sheet_in w).for
       let past : length (members_in w f) ≤ j = omega (arith, all_members h l row_is count_is) in
       ap (λ (ms : List Member). faults_of ms (drop j (parts_in w f))) (drop_of_length-le (members_in w f) past)
 
-  pub parts_next : j < count → {m : Member} → m ≡ member_in w row j → (p : PartPlace) → part_told w p ≡ part_in w f j
+  pub parts_next : j < count → {m : Member} → m ≡ get_or (members_at (sheet_in w) row) j no_member → (p : PartPlace) → part_told w p ≡ part_in w f j
       → parts_from j ≡ part_calls m (part_told w p) ++ parts_from (suc j)
   unfolding parts_faults
   parts_next more m-is p p-is =
@@ -163,7 +166,7 @@ module _ {w : List ℕ} (h : Whole w) where
         omega arith
 
     -- its heading and its `keep` lines are passed over
-    pub form_told : (line : ℕ) {keeps : ℕ} → keeps ≡ length (form_at (sheet_in w) f).keeps → {r : Walked} → r ≡ walk (line + 1 + keeps) (parts_calls (sheet_in w) f) → r ≡ walk line (form_lines f)
+    pub form_told : (line : ℕ) {keeps : ℕ} → keeps ≡ length (form_at (sheet_in w) f).keeps → {r : Result ℕ Refusal} → r ≡ walk (line + 1 + keeps) (parts_calls (sheet_in w) f) → r ≡ walk line (form_lines f)
     form_told line {keeps} e told =
         told
         ∙ ap (λ (k : ℕ). walk (line + 1 + k) (parts_calls (sheet_in w) f)) e
@@ -172,16 +175,16 @@ module _ {w : List ℕ} (h : Whole w) where
 
 -- THE SHEET
 
-pub sheet_strict : (s : Sheet) {first : ℕ} → first ≡ first_form_line s → {forms : Walked} → forms ≡ walk first (forms_calls s) → {v : Verdict} → v ≡ walk_verdict forms → v ≡ strictness s
+pub sheet_strict : (s : Sheet) {first : ℕ} → first ≡ first_form_line s → {forms : Result ℕ Refusal} → forms ≡ walk first (forms_calls s) → {v : Verdict} → v ≡ verdict_from forms → v ≡ strictness s
 unfolding strictness line_faults
 sheet_strict s {first} first-is {forms} told {v} e =
     e ∙ go forms
-    ∙ ap (λ (x : Walked). walk_verdict (walk_on x (λ n. walk n (after_lines s)))) told
-    ∙ ap walk_verdict (sym (walk-append first (forms_calls s) (after_lines s)))
-    ∙ ap (λ (n : ℕ). walk_verdict (walk n (forms_calls s ++ after_lines s))) first-is
+    ∙ ap (λ (x : Result ℕ Refusal). verdict_from (walk_on x (λ n. walk n (after_lines s)))) told
+    ∙ ap verdict_from (sym (walk-append first (forms_calls s) (after_lines s)))
+    ∙ ap (λ (n : ℕ). verdict_from (walk n (forms_calls s ++ after_lines s))) first-is
     ∙ sym (walk_verdict_lem (first_form_line s) (forms_calls s ++ after_lines s))
   where
     -- the lines after the forms' pass
-    go : (x : Walked) → walk_verdict x ≡ walk_verdict (walk_on x (λ n. walk n (after_lines s)))
-    go (Walked.On n) = sym (sym (walk_verdict_lem n (after_lines s)) ∙ first_fault_accepts n (after_lines s) (after_none s))
-    go (Walked.Stopped q n) = refl
+    go : (x : Result ℕ Refusal) → verdict_from x ≡ verdict_from (walk_on x (λ n. walk n (after_lines s)))
+    go (Ok n) = sym (sym (walk_verdict_lem n (after_lines s)) ∙ first_fault_accepts n (after_lines s) (after_none s))
+    go (Err q) = refl

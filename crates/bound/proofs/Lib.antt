@@ -1,4 +1,3 @@
-pub mod CalledLaws
 pub mod ItemsLaws
 pub mod MembersLaws
 pub mod PassedLaws

@@ -1,5 +1,5 @@
 -- Member j of a form's row and part j of the form, as the loops over them read the table. Assumes nothing.
-use Prim.Native.Nat.{ℕ, ◌≤◌, ◌<◌}
+use Prim.Native.Nat.{ℕ, ◌<◌}
 use native.Mathlib.Omega.{arith}
 use mathlib.Core.Path.{◌≡◌, sym, ap, ◌∙◌}
 use mathlib.Core.List.{List}
@@ -9,12 +9,11 @@ use Rattle.sheet_rules.specs.declared.Member.{Member}
 use Rattle.sheet_rules.specs.Sheet.{Part, init, no_member, form_at}
 use Rattle.sheet_rules.specs.WellFormed.{PartOf}
 use Rattle.type_rules.specs.SlotRows.{members_at}
-use Rattle.table.specs.Layout.{work_size}
-use Rattle.table.specs.View.{member_in, part_in, sheet_in}
+use Rattle.table.specs.View.{part_in, sheet_in}
 use Rattle.table.specs.declared.forms.PartPlace.{PartPlace}
 use Rattle.table.specs.Told.{part_told}
 use Rattle.table.specs.Whole.{Whole}
-use Rattle.table.proofs.SheetLaws.{member_row_small, member_small, member_there, forms_few, parts-Pairwise, parts-length, part_there}
+use Rattle.table.proofs.SheetLaws.{member_small, forms_few, parts-Pairwise, parts-length, part_there}
 use Rattle.form_typing.specs.Told.{PlaceSmall}
 use Rattle.form_typing.proofs.PartLaws.{place_small}
 
@@ -37,19 +36,16 @@ module _ {w : List ℕ} (h : Whole w) {f : ℕ} (l : f < length (sheet_in w).for
     pub in_parts : j < length (parts_in w f)
     in_parts = omega (arith, in_members, parts-length w h f l)
 
-    -- a turn asks for a member and for a part that are there
+    -- a turn asks for a part that is there
     there_in_row : j < length (members_at (sheet_in w) row)
     there_in_row = omega (arith, count-is)
 
-    pub member_asks : (row < 64) × (j < 8) × (work_size ≤ length w)
-    member_asks = (member_row_small w h row j there_in_row, member_small w h row j there_in_row, h.size)
-
-    pub part_asks : (f < 64) × (j < 8) × (work_size ≤ length w)
-    part_asks = (omega (arith, forms_few w h), member_small w h row j there_in_row, h.size)
+    pub part_asks : (f < 64) × (j < 8)
+    part_asks = (omega (arith, forms_few w h), member_small w h row j there_in_row)
 
     -- and gets them as the rules have them
-    pub Member-is : {m : Member} → m ≡ member_in w row j → m ≡ get_or (members_in w f) j no_member
-    Member-is e = e ∙ ap (λ (x : ℕ). member_in w x j) row_is ∙ sym (member_there w h (form_at (sheet_in w) f).row j in_members)
+    pub Member-is : {m : Member} → m ≡ get_or (members_at (sheet_in w) row) j no_member → m ≡ get_or (members_in w f) j no_member
+    Member-is e = e ∙ ap (λ (x : ℕ). get_or (members_at (sheet_in w) x) j no_member) row_is
 
     pub part_is : (p : PartPlace) → part_told w p ≡ part_in w f j → part_told w p ≡ get_or (parts_in w f) j (init 0)
     part_is p e = e ∙ sym (part_there w h f l j in_parts)

@@ -19,7 +19,7 @@ use Rattle.sheet_rules.specs.Sheet.{Instr, Part, init, body, no_member, form_at}
 use Rattle.sheet_rules.specs.WellFormed.{NamesAscend, end, above, PartOf}
 use Rattle.machine_rules.specs.Step.{body_in}
 use Rattle.type_rules.specs.SlotRows.{members_at}
-use Rattle.table.specs.View.{member_in, part_in, sheet_in}
+use Rattle.table.specs.View.{part_in, sheet_in}
 use Rattle.table.specs.declared.forms.PartPlace.{PartPlace}
 use Rattle.table.specs.Told.{part_told}
 use Rattle.table.specs.Whole.{Whole}
@@ -116,7 +116,7 @@ module _ {w : List ℕ} (h : Whole w) {f : ℕ} (l : f < length (sheet_in w).for
       go (other g d e q) = nothing e q
       go (this g d e q) = absurd (omega (arith, all_members h l row_is count-is))
 
-  module _ (more : j < count) {m : ℕ} (m-is : m ≡ name_of (member_in w row j)) {k : ℕ} (k-is : k ≡ m) where
+  module _ (more : j < count) {m : ℕ} (m-is : m ≡ name_of (get_or (members_at (sheet_in w) row) j no_member)) {k : ℕ} (k-is : k ≡ m) where
     name_is : k ≡ name_of (get_or (members_in w f) j no_member)
     name_is = k-is ∙ m-is ∙ ap name_of (Member-is h l row_is count-is more refl)
 

@@ -12,12 +12,13 @@ use Rattle.type_rules.specs.Typing.{Fault, unless, parts_faults, forms_faults}
 use Rattle.bound_rules.specs.Strict.{calls_below, strict_lines, body_of}
 use Rattle.bound_rules.specs.Amount.{amount_at, body_amount, name_amount, amounts}
 use Rattle.bound_rules.specs.BoundQuestion.{amount_limit}
-use Rattle.bound.specs.declared.Called.{Called}
+use Rattle.std.specs.declared.option.Option.{Option as Maybe}
+use Rattle.std.specs.declared.option.Option.TheVariants.{Some, None}
 
 -- the name that is called, if there is a call
-abbrev pub called_told : Called → Option ℕ
-called_told (Called.Method n) = some n
-called_told Called.Nothing = none
+abbrev pub called_told : Maybe ℕ → Option ℕ
+called_told (Some n) = some n
+called_told None = none
 
 -- the lines of some instructions of a body of method n, of a part for a member, of the parts of form f, and of all forms. Only the
 -- called names tell, so the first two do without a form and its slots (CallsLaws)

@@ -7,7 +7,9 @@ use mathlib.Core.List.{List, [], ◌∷◌, ◌++◌, map}
 use lib.ListN.{replicate}
 use Rattle.sheet_rules.specs.Answers.{number_of}
 use Rattle.sheet_rules.specs.Samples.{text_of, with_line, P, L}
-use Rattle.bound_rules.specs.declared.BoundReply.{BoundReply}
+use Rattle.sheet_rules.specs.declared.Refusal.{Refusal}
+use Rattle.std.specs.declared.result.Result.TheVariants.{Ok, Err}
+use Rattle.std.specs.declared.result.Result.{Result}
 use Rattle.bound_rules.specs.BoundQuestion.{bound_reply}
 use Rattle.bound_rules.proofs.Opened.{bounding}
 
@@ -68,9 +70,9 @@ tower last n end =
     ++ end
 
 -- the steps, or the refusal's number and line
-abbrev numbers : BoundReply → List ℕ
-numbers (BoundReply.Needs m) = m ∷ []
-numbers (BoundReply.Refused r n) = number_of r ∷ n ∷ []
+abbrev numbers : Result ℕ Refusal → List ℕ
+numbers (Ok m) = m ∷ []
+numbers (Err e) = number_of e.reason ∷ e.line ∷ []
 
 record Case : Type 0 where
   sheet : List String

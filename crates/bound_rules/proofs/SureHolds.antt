@@ -22,7 +22,8 @@ use Rattle.type_rules.specs.Typing.{typing, verdict}
 use Rattle.type_rules.proofs.VerdictLaws.{accepted_on_lem}
 use Rattle.machine_rules.specs.declared.Outcome.{Outcome}
 use Rattle.machine_rules.specs.declared.Outcome.TheVariants.{Done, Spent, StoreFull, StackFull}
-use Rattle.machine_rules.specs.declared.RunReply.{RunReply}
+use Rattle.sheet_rules.specs.Answers.{turned_away}
+use Rattle.std.specs.declared.result.Result.TheVariants.{Ok}
 use Rattle.machine_rules.specs.State.{Frame, State, frame_count, start, object_at}
 use Rattle.machine_rules.specs.Step.{creates, Next, step, store_full, stack_full, body_in, field_place, members_of, slot_values, with_new, new_step, entered, called_step, call_step, got_step, get_step, has_put_step, put_step, instr_step, return_step, code_step, next_step}
 use Rattle.machine_rules.specs.Steps.{step_from, after, run, answer_of, run_reply}
@@ -204,7 +205,7 @@ module _ (text : List ℕ) (m : ℕ) (a : StrictText text m) where
         is = a.is;
         left = λ n σ e. (let h = needs_left n σ e in omega (arith, a.is));
         ends = λ budget h.
-            subst Unspent (sym (accepted_on_lem typing RunReply.Refused (λ x. RunReply.Ran (answer_of (run x budget))) (meaning text) s a.read a.accepted))
+            subst Unspent (sym (accepted_on_lem typing turned_away (λ x. Ok (answer_of (run x budget))) (meaning text) s a.read a.accepted))
             (unspent (ends_unspent budget h));
       }
 

@@ -16,13 +16,16 @@ use Rattle.type_rules.specs.Typing.{typing, verdict, accepted_on}
 use Rattle.type_rules.proofs.VerdictLaws.{accepted_on_lem}
 use Rattle.machine_rules.specs.declared.Outcome.{Outcome}
 use Rattle.machine_rules.specs.declared.Outcome.TheVariants.{Spent, StoreFull, StackFull}
-use Rattle.machine_rules.specs.declared.RunReply.{RunReply}
+use Rattle.sheet_rules.specs.Answers.{turned_away}
+use Rattle.machine_rules.specs.declared.RunAnswer.{RunAnswer}
+use Rattle.sheet_rules.specs.declared.Refusal.{Refusal}
+use Rattle.std.specs.declared.result.Result.TheVariants.{Ok, Err}
+use Rattle.std.specs.declared.result.Result.{Result}
 use Rattle.machine_rules.specs.State.{State, start}
 use Rattle.machine_rules.specs.Step.{Next, finished, step, store_full, stack_full, lacking, next_step}
 use Rattle.machine_rules.specs.Steps.{after, Ran, budget_used, go_on, run_from, run, answer_of, run_reply}
 use Rattle.machine_rules.proofs.RunCases.{maker}
 use Rattle.machine_rules.proofs.TakenLaws.{run_done}
-use Rattle.bound_rules.specs.declared.BoundReply.TheVariants.{Needs}
 use Rattle.bound_rules.specs.BoundQuestion.{bound_reply}
 use Rattle.bound_rules.specs.Sure.{NeedsAtMost}
 use Rattle.bound_rules.proofs.Opened.{bounding}
@@ -57,15 +60,15 @@ more_budget s (suc left) (suc budget) n σ h p = go (λ τ. more_budget s left b
     go more lacking p = absurd (p refl)
 
 -- so that a budget beyond m changes nothing of the answer
-pub same_beyond : (text : List ℕ) (m : ℕ) → bound_reply text ≡ Needs m → (budget : ℕ) → m ≤ budget → run_reply text budget ≡ run_reply text m
+pub same_beyond : (text : List ℕ) (m : ℕ) → bound_reply text ≡ Ok m → (budget : ℕ) → m ≤ budget → run_reply text budget ≡ run_reply text m
 unfolding run_reply run verdict
 same_beyond text m e budget h =
     let a = (bound_exactly text m).0 e in
     let more = more_budget a.sheet m budget 0 (start a.sheet) h (ends_unspent text m a m (omega arith)) in
-    answered budget a ∙ ap (λ (r : Ran). RunReply.Ran (answer_of r)) more ∙ sym (answered m a)
+    answered budget a ∙ ap (λ (r : Ran). Ok (answer_of r)) more ∙ sym (answered m a)
   where
-    answered : (b : ℕ) (a : StrictText text m) → accepted_on typing RunReply.Refused (λ x. RunReply.Ran (answer_of (run_from x b 0 (start x)))) (meaning text) ≡ RunReply.Ran (answer_of (run_from a.sheet b 0 (start a.sheet)))
-    answered b a = accepted_on_lem typing RunReply.Refused (λ x. RunReply.Ran (answer_of (run_from x b 0 (start x)))) (meaning text) a.sheet a.read a.accepted
+    answered : (b : ℕ) (a : StrictText text m) → accepted_on typing turned_away (λ x. Ok (answer_of (run_from x b 0 (start x)))) (meaning text) ≡ Ok (answer_of (run_from a.sheet b 0 (start a.sheet)))
+    answered b a = accepted_on_lem typing turned_away (λ x. Ok (answer_of (run_from x b 0 (start x)))) (meaning text) a.sheet a.read a.accepted
 
 -- A CHAIN THROUGH ALL 64 NAMES
 
@@ -99,12 +102,12 @@ chain =
     }
 
 -- how a run ended; a refused text has no run
-abbrev end_of : RunReply → Option Outcome
-end_of (RunReply.Ran a) = some a.outcome
-end_of (RunReply.Refused r n) = none
+abbrev end_of : Result RunAnswer Refusal → Option Outcome
+end_of (Ok a) = some a.outcome
+end_of (Err e) = none
 
 -- 138 steps at the most, and yet its 64th call finds a full stack
-pub chain_bound : bound_reply (print chain) ≡ Needs 138
+pub chain_bound : bound_reply (print chain) ≡ Ok 138
 unfolding bounding
 chain_bound = refl
 
@@ -113,13 +116,13 @@ unfolding bounding
 chain_ends = refl
 
 -- so that such a sheet never fills the stack is false
-pub no_free_frame : ((text : List ℕ) (m : ℕ) → bound_reply text ≡ Needs m → end_of (run_reply text m) ≡ some StackFull → ⊥) → ⊥
+pub no_free_frame : ((text : List ℕ) (m : ℕ) → bound_reply text ≡ Ok m → end_of (run_reply text m) ≡ some StackFull → ⊥) → ⊥
 no_free_frame claim = claim (print chain) 138 chain_bound chain_ends
 
 -- A FULL STORE
 
 -- a method makes 32 objects, and main calls it eight times: 274 steps at the most, and yet the store is full after 271
-pub maker_bound : bound_reply (text_of maker) ≡ Needs 274
+pub maker_bound : bound_reply (text_of maker) ≡ Ok 274
 unfolding bounding
 maker_bound = refl
 
@@ -128,5 +131,5 @@ unfolding bounding
 maker_ends = refl
 
 -- nor does it always leave a place in the store
-pub no_free_place : ((text : List ℕ) (m : ℕ) → bound_reply text ≡ Needs m → end_of (run_reply text m) ≡ some StoreFull → ⊥) → ⊥
+pub no_free_place : ((text : List ℕ) (m : ℕ) → bound_reply text ≡ Ok m → end_of (run_reply text m) ≡ some StoreFull → ⊥) → ⊥
 no_free_place claim = claim (text_of maker) 274 maker_bound maker_ends

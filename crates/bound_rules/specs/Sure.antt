@@ -6,10 +6,11 @@ use Rattle.sheet_rules.specs.Sheet.{Sheet}
 use Rattle.sheet_rules.specs.Reading.{readable, meaning}
 use Rattle.machine_rules.specs.declared.Outcome.TheVariants.{Spent}
 use Rattle.machine_rules.specs.declared.RunAnswer.{RunAnswer}
-use Rattle.machine_rules.specs.declared.RunReply.{RunReply}
+use Rattle.sheet_rules.specs.declared.Refusal.{Refusal}
+use Rattle.std.specs.declared.result.Result.TheVariants.{Ok}
+use Rattle.std.specs.declared.result.Result.{Result}
 use Rattle.machine_rules.specs.State.{Frame, State}
 use Rattle.machine_rules.specs.Steps.{after, run_reply}
-use Rattle.bound_rules.specs.declared.BoundReply.{BoundReply}
 use Rattle.bound_rules.specs.Amount.{code_amount, amounts, main_amount}
 use Rattle.bound_rules.specs.BoundQuestion.{bound_reply}
 
@@ -23,8 +24,8 @@ abbrev pub still_needs : Sheet → State → ℕ
 still_needs s σ = code_amount (amounts s) σ.top.code + waiting_amount (amounts s) σ.below
 
 -- a run that was answered and did not end as spent (order 4)
-pub data Unspent : RunReply → Type 0 where
-  unspent : {a : RunAnswer} → (a.outcome ≡ Spent → ⊥) → Unspent (RunReply.Ran a)
+pub data Unspent : Result RunAnswer Refusal → Type 0 where
+  unspent : {a : RunAnswer} → (a.outcome ≡ Spent → ⊥) → Unspent (Ok a)
 
 -- the sheet of a text can need m steps at the most: m is main's amount; after any n steps, n without a limit, what the state can still
 -- need is at most what is left of m; and a run within any budget of at least m does not end as spent (order 4)
@@ -37,4 +38,4 @@ pub record NeedsAtMost (text : List ℕ) (m : ℕ) : Type 0 where
 
 -- every text for which the question answers (order 4)
 abbrev pub Sure : Type 0
-Sure = (text : List ℕ) (m : ℕ) → bound_reply text ≡ BoundReply.Needs m → NeedsAtMost text m
+Sure = (text : List ℕ) (m : ℕ) → bound_reply text ≡ Ok m → NeedsAtMost text m

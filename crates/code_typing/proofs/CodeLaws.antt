@@ -28,12 +28,14 @@ use Rattle.table.specs.Whole.{Whole}
 use Rattle.table.proofs.ViewLaws.{SameTable, only→same, Only-refl, Only-set, Only-trans, instr_in_same, sheet_in_same}
 use Rattle.fit.specs.Told.{first_bit, tells}
 use Rattle.fit_answer.specs.Told.{answers}
-use Rattle.instr_typing.specs.declared.InstrJudged.{InstrJudged}
 use Rattle.instr_typing.specs.Told.{judged_of}
 use Rattle.instr_typing.proofs.InstrLaws.{good_none, good_row, refused_some}
-use Rattle.code_typing.specs.declared.Walked.{Walked}
+use Rattle.std.specs.declared.result.Result.{Result}
+use Rattle.std.specs.declared.result.Result.TheVariants.{Ok, Err}
+use Rattle.sheet_rules.specs.declared.Refusal.{Refusal}
+use Rattle.sheet_rules.specs.Answers.{turned_away}
 use Rattle.code_typing.specs.Walk.{walk}
-use Rattle.code_typing.specs.Told.{last_fault, line_judged, stopped_at, OnlySlots, CodeJudged, instr_judge_in, code_faults_in, code_slot_rows}
+use Rattle.code_typing.specs.Told.{last_fault, line_judged, OnlySlots, CodeJudged, instr_judge_in, code_faults_in, code_slot_rows}
 use Rattle.code_typing.proofs.WalkLaws.{walk_none, walk_good, walk_bad}
 
 -- what a change of slots' rows leaves as it was
@@ -79,28 +81,29 @@ result_last fit (some r) a [] false h n = absurd (n refl refl)
 result_last fit (some r) a (i ∷ is) false h n = refl
 
 -- where the loop stands
-pub record CodeGoing (own : Own) (wanted : Option ℕ) (filled start count first : ℕ) (w₀ w : List ℕ) (j line : ℕ) : Type 0 where
+pub record CodeGoing (own : Own) (wanted : Option ℕ) (filled start count first : ℕ) (w₀ w : List ℕ) (j : ℕ) : Type 0 where
   pub within : j ≤ count
   pub only : OnlySlots w₀ w
-  pub lined : line ≡ first + j
-  pub same : walk line (code_faults (instr_judge_in w₀ own wanted) (sheet_in w₀) own (slot_rows_in w (filled + j)) (drop j (instrs_in w₀ start count)))
+  pub same : walk (first + j) (code_faults (instr_judge_in w₀ own wanted) (sheet_in w₀) own (slot_rows_in w (filled + j)) (drop j (instrs_in w₀ start count)))
       ≡ walk first (code_faults_in w₀ own wanted filled start count)
   pub slots : slot_rows (sheet_in w₀) own (slot_rows_in w (filled + j)) (drop j (instrs_in w₀ start count)) ≡ code_slot_rows w₀ own filled start count
 
-pub code_start : {own : Own} {wanted : Option ℕ} {filled start count first : ℕ} {w₀ : List ℕ} → CodeGoing own wanted filled start count first w₀ w₀ 0 first
+pub code_start : {own : Own} {wanted : Option ℕ} {filled start count first : ℕ} {w₀ : List ℕ} → CodeGoing own wanted filled start count first w₀ w₀ 0
 code_start {own} {wanted} {filled} {start} {count} {first} {w₀} =
     record {
       within = omega arith;
       only = Only-refl (slot_row_address 0) (slot_row_address 63 + 1) w₀;
-      lined = omega arith;
-      same = ap (λ (k : ℕ). walk first (code_faults_in w₀ own wanted k start count)) none_more;
+      same = ap₂ (λ (n k : ℕ). walk n (code_faults_in w₀ own wanted k start count)) (omega arith) none_more;
       slots = ap (λ (k : ℕ). code_slot_rows w₀ own k start count) none_more;
     }
   where
     none_more : filled + 0 ≡ filled
     none_more = omega arith
 
-module _ {own : Own} {wanted : Option ℕ} {filled start count first : ℕ} {w₀ w : List ℕ} {j line : ℕ} (g : CodeGoing own wanted filled start count first w₀ w j line) where
+module _ {own : Own} {wanted : Option ℕ} {filled start count first : ℕ} {w₀ w : List ℕ} {j : ℕ} (g : CodeGoing own wanted filled start count first w₀ w j) where
+  abbrev line : ℕ
+  line = first + j
+
   abbrev code : List Instr
   code = instrs_in w₀ start count
 
@@ -113,7 +116,7 @@ module _ {own : Own} {wanted : Option ℕ} {filled start count first : ℕ} {w�
   abbrev slots_from : List ℕ → List Instr → List ℕ
   slots_from rows is = slot_rows (sheet_in w₀) own rows is
 
-  abbrev Judged : Walked → Type 0
+  abbrev Judged : Result ℕ Refusal → Type 0
   Judged r = CodeJudged (code_faults_in w₀ own wanted filled start count) (code_slot_rows w₀ own filled start count) first w₀ w r
 
   none_left : count ≤ j → drop j code ≡ []
@@ -123,22 +126,25 @@ module _ {own : Own} {wanted : Option ℕ} {filled start count first : ℕ} {w�
   unfolding slot_rows
   slots_all l = sym (ap (slots_from (slot_rows_in w (filled + j))) (none_left l)) ∙ g.slots
 
-  pub code_end : count ≤ j → Judged (Walked.On line)
+  pub code_end : count ≤ j → Judged (Ok (first + count))
   unfolding code_faults
   code_end l =
       record {
         lines = record {
           told =
-              sym (walk_none line)
+              ap Ok at_end ∙ sym (walk_none line)
               ∙ sym (ap (λ (is : List Instr). walk line (faults (slot_rows_in w (filled + j)) is)) (none_left l)) ∙ g.same;
           only = g.only;
         };
         slots = λ n e. ap (slot_rows_in w) (sym (ap length (slots_all l)) ∙ length-tab (λ v. cell w (slot_row_address v)) (filled + j)) ∙ slots_all l;
       }
+    where
+      at_end : first + count ≡ line
+      at_end = omega (arith, g.within)
 
   -- the next line; the code has the place of the first instruction as a number of its own
-  module _ (l : j < count) {place : ℕ} (place_is : place ≡ start) {judged : InstrJudged}
-      (told : judged ≡ line_judged w own wanted (filled + j) (instr_in w (place + j)) (eqb (j + 1) count)) where
+  module _ (l : j < count) {place : ℕ} (place_is : place ≡ start) {v : List ℕ} (sheet : v ≡ w) {judged : Result ℕ Reason}
+      (told : judged ≡ line_judged v own wanted (filled + j) (instr_in v (place + j)) (eqb (j + 1) count)) where
     rows : List ℕ
     rows = slot_rows_in w (filled + j)
 
@@ -181,13 +187,14 @@ module _ {own : Own} {wanted : Option ℕ} {filled start count first : ℕ} {w�
         cc-empty e = cc
 
     -- the rule's judgement of the line, over the buffer at the start
-    judged_with : (ℕ → ℕ → FitAnswer) → Sheet → Instr → InstrJudged
+    judged_with : (ℕ → ℕ → FitAnswer) → Sheet → Instr → Result ℕ Reason
     judged_with fit s i = judged_of (first_of (instr_fault fit s own rows i) (last_fault fit wanted (slot_row s own rows i) last)) (slot_row s own rows i)
 
     judged_rule : judged ≡ judged_of fault row
     unfolding rows instr row fault judged_with
     judged_rule =
         told
+        ∙ ap (λ (x : List ℕ). line_judged x own wanted (filled + j) (instr_in x (place + j)) last) sheet
         ∙ ap (λ (p : ℕ). line_judged w own wanted (filled + j) (instr_in w (p + j)) last) place_is
         ∙ (λ x. judged_with (slots_answers g.only x) (slots_sheet g.only x) (slots_instr g.only (start + j) x))
         ∙ ap (λ (f : Fault). judged_of (first_of (instr_fault (answers w₀) (sheet_in w₀) own rows instr) f) row) (result_last (answers w₀) wanted row rest last ends goes_on)
@@ -203,26 +210,23 @@ module _ {own : Own} {wanted : Option ℕ} {filled start count first : ℕ} {w�
     unfolding rows instr row rest slot_rows
     slots_here = sym (ap (slots_from (slot_rows_in w (filled + j))) next_here) ∙ g.slots
 
-    pub code_stop : {q : Reason} → judged ≡ InstrJudged.Refused q → {v : Walked} → v ≡ stopped_at judged line → Judged v
-    code_stop {q} e {v} ev =
+    pub code_stop : {q : Reason} → judged ≡ Err q → Judged (turned_away q line)
+    code_stop {q} e =
         record {
           lines = record {
             told =
-                stops ∙ walk_bad line q (faults (rows ++ (row ∷ [])) rest)
+                walk_bad line q (faults (rows ++ (row ∷ [])) rest)
                 ∙ ap (λ (f : Fault). walk line (f ∷ faults (rows ++ (row ∷ [])) rest)) (sym (refused_some fault row q (sym judged_rule ∙ e))) ∙ walk_here;
             only = g.only;
           };
-          slots = λ n on. no_way n (sym stops ∙ on);
+          slots = λ n on. no_way n on;
         }
       where
-        stops : v ≡ Walked.Stopped q line
-        stops = ev ∙ ap (λ (x : InstrJudged). stopped_at x line) e
-
-        no_way : (n : ℕ) {A : Type 0} → Walked.Stopped q line ≡ Walked.On n → A
+        no_way : (n : ℕ) {A : Type 0} → turned_away q line ≡ Ok n → A
         no_way n c = clash (cc)
 
-    pub code_next : filled + count ≤ 64 → work_size ≤ length w₀ → {r : ℕ} → judged ≡ InstrJudged.Good r → {w' : List ℕ} → w' ≡ set w (slot_row_address (filled + j)) r
-        → CodeGoing own wanted filled start count first w₀ w' (j + 1) (line + 1)
+    pub code_next : filled + count ≤ 64 → work_size ≤ length w₀ → {r : ℕ} → judged ≡ Ok r → {w' : List ℕ} → w' ≡ set w (slot_row_address (filled + j)) r
+        → CodeGoing own wanted filled start count first w₀ w' (j + 1)
     unfolding rest rows
     code_next few size {r} e {w'} s =
         record {
@@ -230,9 +234,9 @@ module _ {own : Own} {wanted : Option ℕ} {filled start count first : ℕ} {w�
           only =
               Only-trans g.only
               (subst (OnlySlots w) (sym s) (Only-set (slot_row_address 0) (slot_row_address 63 + 1) w (slot_row_address (filled + j)) r (omega arith) (omega arith)));
-          lined = omega (arith, g.lined);
           same =
-              ap₂ (λ (xs : List ℕ) (k : ℕ). walk (line + 1) (faults xs (drop k code))) rows_then (add-one j)
+              ap (λ (n : ℕ). walk n (faults (slot_rows_in w' (filled + (j + 1))) (drop (j + 1) code))) (omega arith)
+              ∙ ap₂ (λ (xs : List ℕ) (k : ℕ). walk (line + 1) (faults xs (drop k code))) rows_then (add-one j)
               ∙ walk_good line (faults (rows ++ (row ∷ [])) rest)
               ∙ ap (λ (f : Fault). walk line (f ∷ faults (rows ++ (row ∷ [])) rest)) (sym (good_none fault row r (sym judged_rule ∙ e))) ∙ walk_here;
           slots = ap₂ (λ (xs : List ℕ) (k : ℕ). slots_from xs (drop k code)) rows_then (add-one j) ∙ slots_here;

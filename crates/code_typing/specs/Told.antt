@@ -10,9 +10,11 @@ use Rattle.table.specs.Only.{Only}
 use Rattle.table.specs.Told.{slot_rows_in}
 use Rattle.table.specs.View.{instrs_in, sheet_in}
 use Rattle.fit_answer.specs.Told.{answers}
-use Rattle.instr_typing.specs.declared.InstrJudged.{InstrJudged}
+use Rattle.sheet_rules.specs.declared.Reason.{Reason}
 use Rattle.instr_typing.specs.Told.{judged_of}
-use Rattle.code_typing.specs.declared.Walked.{Walked}
+use Rattle.std.specs.declared.result.Result.{Result}
+use Rattle.std.specs.declared.result.Result.TheVariants.{Ok}
+use Rattle.sheet_rules.specs.declared.Refusal.{Refusal}
 use Rattle.code_typing.specs.Walk.{walk}
 
 -- the fault of a value of row a on a body's last line
@@ -21,31 +23,26 @@ last_fault fit wanted a true = result_fault fit wanted a []
 last_fault fit wanted a false = none
 
 -- an instruction's line, judged with the declared result if it is the last
-abbrev pub line_judged : List ℕ → Own → Option ℕ → ℕ → Instr → Bool → InstrJudged
+abbrev pub line_judged : List ℕ → Own → Option ℕ → ℕ → Instr → Bool → Result ℕ Reason
 line_judged w own wanted filled i last =
     judged_of
     (first_of (instr_fault (answers w) (sheet_in w) own (slot_rows_in w filled) i)
     (last_fault (answers w) wanted (slot_row (sheet_in w) own (slot_rows_in w filled) i) last))
     (slot_row (sheet_in w) own (slot_rows_in w filled) i)
 
--- a refused instruction, with its line
-abbrev pub stopped_at : InstrJudged → ℕ → Walked
-stopped_at (InstrJudged.Good row) n = Walked.On n
-stopped_at (InstrJudged.Refused q) n = Walked.Stopped q n
-
 -- only the rows of slots have changed
 abbrev pub OnlySlots : List ℕ → List ℕ → Type 0
 OnlySlots w w' = Only (slot_row_address 0) (slot_rows_end) w w'
 
 -- lines judged by what the fit table says: the walk is the rule's, and only rows of slots have changed
-pub record LinesJudged (faults : List Fault) (line : ℕ) (w w' : List ℕ) (r : Walked) : Type 0 where
+pub record LinesJudged (faults : List Fault) (line : ℕ) (w w' : List ℕ) (r : Result ℕ Refusal) : Type 0 where
   pub told : r ≡ walk line faults
   pub only : OnlySlots w w'
 
 -- the lines of a body or of main, judged so; and where none is at fault, the table holds the rows of all its slots
-pub record CodeJudged (faults : List Fault) (rows : List ℕ) (line : ℕ) (w w' : List ℕ) (r : Walked) : Type 0 where
+pub record CodeJudged (faults : List Fault) (rows : List ℕ) (line : ℕ) (w w' : List ℕ) (r : Result ℕ Refusal) : Type 0 where
   pub lines : LinesJudged faults line w w' r
-  pub slots : (n : ℕ) → r ≡ Walked.On n → slot_rows_in w' (length rows) ≡ rows
+  pub slots : (n : ℕ) → r ≡ Ok n → slot_rows_in w' (length rows) ≡ rows
 
 -- typing's judge of lines, and of the instructions of a body or of main, by what the fit table says
 abbrev pub judge_in : List ℕ → LineJudge

@@ -57,11 +57,3 @@ second_and x y =
     ap (λ (n : ℕ). first_bit (n / 2)) (and_step x y)
     ∙ ap first_bit (digits_div (bit_and (x / 2) (y / 2)) (min_digit x y))
     ∙ first_and (x / 2) (y / 2)
-
--- two answers that are the same are themselves turned round
-pub bits_turned : (n : ℕ) → n ≤ 3 → (n ≡ 1 → ⊥) → (n ≡ 2 → ⊥) → n ≡ two_bits (second_bit n) (first_bit n)
-bits_turned zero h d e = refl
-bits_turned (suc zero) h d e = absurd (d refl)
-bits_turned (suc (suc zero)) h d e = absurd (e refl)
-bits_turned (suc (suc (suc zero))) h d e = refl
-bits_turned (suc (suc (suc (suc n)))) h d e = absurd (omega arith)

@@ -1,19 +1,16 @@
 -- What two members of one name, and two rows, say of each other in both directions: a law for each exit. Assumes nothing.
-use Prim.Native.Nat.{ℕ, suc, ◌+◌, ◌≤◌, ◌<◌}
+use Prim.Native.Nat.{ℕ, ◌+◌, ◌≤◌, ◌<◌}
 use native.Mathlib.Omega.{arith}
-use native.Mathlib.Decide.{dec_le}
 use mathlib.Core.Path.{◌≡◌, refl, sym, ap, ap₂, ◌∙◌, subst}
 use mathlib.Core.Bool.{Bool, true, false, cond, ◌&&◌}
 use mathlib.Core.List.{List}
-use lib.Dec.{T, eqb, ltb}
+use lib.Dec.{T}
 use lib.ListN.{length, get_or}
 use lib.Bits.{bit_and}
-use borrow.Author.Tests.{eq-eqb, ne_eqb, ltb-true}
+use borrow.Author.Tests.{eq-eqb}
 use Rattle.lists.proofs.InLaws.{In-get_or}
-use Rattle.lists.proofs.Tests.{and_left, and_right, T→true}
-use Rattle.sheet_rules.specs.declared.Kind.{Kind}
 use Rattle.sheet_rules.specs.declared.Member.{Member}
-use Rattle.sheet_rules.specs.declared.Member.TheVariants.{Method, Field}
+use Rattle.sheet_rules.specs.declared.Member.TheVariants.{Method}
 use Rattle.sheet_rules.specs.declared.FitAnswer.{FitAnswer}
 use Rattle.sheet_rules.specs.declared.FitAnswer.TheVariants.{WrongKind}
 use Rattle.sheet_rules.specs.Answers.{is_yes}
@@ -25,7 +22,7 @@ use Rattle.type_rules.proofs.AgreeLaws.{mentions_more}
 use Rattle.table.specs.Layout.{row_address, fit_address}
 use Rattle.table.specs.View.{cell, member_in, row_in}
 use Rattle.table.proofs.RowLaws.{members-length, members-get_or}
-use Rattle.fit.specs.Told.{two_bits, first_bit, second_bit, tells, tells_back, Alike, BothMatch, Walked, rule_tells, rule_tells_back}
+use Rattle.fit.specs.Told.{two_bits, first_bit, second_bit, tells, tells_back, BothMatch, Walked, rule_tells, rule_tells_back}
 use Rattle.fit.proofs.BitLaws.{first_bit_lem, second_bit_lem, bits_are, first_and, second_and}
 
 -- what the members of a row that was read give: there are at most eight, and they mention rows that the table has
@@ -43,19 +40,7 @@ module _ (w : List ℕ) (i : ℕ) (f : WellFormedRow i (row_in w i)) where
   pub small_mentions : (j : ℕ) → i < 64 → j < cell w (row_address i + 1) → T (mentions_below 64 (member_in w i j))
   small_mentions j h k = mentions_more i 64 (omega arith) (member_in w i j) (member_mentions j k)
 
--- the rows that a method mentions
-
-module _ (x : Member) (n a r : ℕ) (e : x ≡ Method n a r) (t : T (mentions_below 64 x)) where
-  told : T (mentions_below 64 (Method n a r))
-  told = subst (λ (y : Member). T (mentions_below 64 y)) e t
-
-  pub argument_small : a < 64
-  argument_small = ltb-true a 64 (T→true (ltb a 64) (and_left (ltb a 64) (ltb r 64) told))
-
-  pub result_small : r < 64
-  result_small = ltb-true r 64 (T→true (ltb r 64) (and_right (ltb a 64) (ltb r 64) told))
-
--- two members: each exit of both_match
+-- two methods
 
 module _ (w : List ℕ) (x y : Member) (named : name_of x ≡ name_of y) where
   pub methods_both : (n a r n' a' r' c d : ℕ) → x ≡ Method n a r → y ≡ Method n' a' r'
@@ -74,38 +59,6 @@ module _ (w : List ℕ) (x y : Member) (named : name_of x ≡ name_of y) where
     where
       same : n ≡ n'
       same = sym (ap name_of p) ∙ named ∙ ap name_of q
-
-  pub fields_same : (n r n' r' : ℕ) → x ≡ Field n r → y ≡ Field n' r' → r ≡ r' → BothMatch w x y 3
-  fields_same n r n' r' p q e =
-      record {
-        first = sym (ap₂ (matches (tells w)) p q ∙ ap₂ (λ (b c : Bool). b && c) (eq-eqb n n' same) (eq-eqb r r' e));
-        second = sym (ap₂ (matches (tells_back w)) q p ∙ ap₂ (λ (b c : Bool). b && c) (eq-eqb n' n (sym same)) (eq-eqb r' r (sym e)));
-      }
-    where
-      same : n ≡ n'
-      same = sym (ap name_of p) ∙ named ∙ ap name_of q
-
-  pub fields_differ : (n r n' r' : ℕ) → x ≡ Field n r → y ≡ Field n' r' → (r ≡ r' → ⊥) → BothMatch w x y 0
-  fields_differ n r n' r' p q d =
-      record {
-        first = sym (ap₂ (matches (tells w)) p q ∙ go (eqb n n') (eqb r r') (ne_eqb r r' d));
-        second = sym (ap₂ (matches (tells_back w)) q p ∙ go (eqb n' n) (eqb r' r) (ne_eqb r' r (λ e. d (sym e))));
-      }
-    where
-      go : (b c : Bool) → c ≡ false → (b && c) ≡ false
-      go true c e = e
-      go false c e = refl
-
-  pub method_field : (n a r n' r' : ℕ) → x ≡ Method n a r → y ≡ Field n' r' → BothMatch w x y 0
-  method_field n a r n' r' p q = record { first = sym (ap₂ (matches (tells w)) p q); second = sym (ap₂ (matches (tells_back w)) q p) }
-
-  pub field_method : (n r n' a' r' : ℕ) → x ≡ Field n r → y ≡ Method n' a' r' → BothMatch w x y 0
-  field_method n r n' a' r' p q = record { first = sym (ap₂ (matches (tells w)) p q); second = sym (ap₂ (matches (tells_back w)) q p) }
-
--- two rows: what their kinds allow, read as x and y
-
-pub kinds_allow : {a b x y : Kind} {p q : Kind} → x ≡ a → x ≡ p → y ≡ b → y ≡ q → two_bits (kind_fits p q) (kind_fits q p) ≡ two_bits (kind_fits a b) (kind_fits b a)
-kinds_allow e h f l = sym (ap₂ (λ (a b : Kind). two_bits (kind_fits a b) (kind_fits b a)) (sym e ∙ h) (sym f ∙ l))
 
 -- what the walk leaves of what the kinds allow is the rule's word
 
@@ -143,16 +96,3 @@ module _ {w : List ℕ} {m k kinds said : ℕ}
 
   pub pair_turned : {t : ℕ} → t ≡ two_bits (second_bit said) (first_bit said) → t ≡ two_bits (rule_tells_back w m k) (rule_tells w m k)
   pair_turned h = h ∙ ap₂ two_bits second_said first_said
-
--- members that are the same, from the first on: none yet, one more
-
-module _ (w : List ℕ) (m k : ℕ) where
-  pub Alike-none : Alike w m k 0
-  Alike-none = record { first = omega arith; second = omega arith; same = λ t h. absurd (omega arith) }
-
-  pub Alike-next : (n : ℕ) → Alike w m k n → n < cell w (row_address m + 1) → n < cell w (row_address k + 1) → member_in w m n ≡ member_in w k n → Alike w m k (n + 1)
-  Alike-next n a h l e = record { first = omega arith; second = omega arith; same = λ t u. go t u (dec_le (suc t) n) }
-    where
-      go : (t : ℕ) → t < n + 1 → Dec (suc t ≤ n) → member_in w m t ≡ member_in w k t
-      go t u (yes v) = a.same t v
-      go t u (no v) = let d : n ≡ t = omega arith in subst (λ (i : ℕ). member_in w m i ≡ member_in w k i) d e

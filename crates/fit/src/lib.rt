@@ -1,5 +1,6 @@
 // The fit table: whether row a fits row b, for every two rows of the sheet in the work buffer. Each pair of rows is settled once,
-// in both directions, by one walk along the members of both.
+// in both directions, by one walk along the members of both. Its two answers are the two bits of one number, 1 for the first and 2 for
+// the second: the table's cells have them so, and a single `&` takes away what a turn of the walk finds against either.
 #![tactic(auto)]
 
 ghost use Rattle.std.specs.Prelude.{◌≡◌, ◌≤◌, ◌<◌, ◌+◌, T, length};
@@ -18,8 +19,7 @@ pub fn fits_in(work: &[u16], a: usize, b: usize) -> bool
     requires { work_size ≤ length work.now }
     ensures { result ≡ tells work.now a b }
 {
-    let at = table::rows::fit_address(a, b);
-    work[at] % 2 == 1
+    work[table::rows::fit_address(a, b)] % 2 == 1
 }
 
 // The cell of rows a and b.
@@ -27,8 +27,7 @@ fn cell_of(work: &[u16], a: u16, b: u16) -> u16
     requires { (a < 64) × (b < 64) × (work_size ≤ length work.now) }
     ensures { result ≡ cell_of work.now (fit_address a b) }
 {
-    let at = table::rows::fit_place(wide(a), wide(b));
-    work[at]
+    work[table::rows::fit_place(wide(a), wide(b))]
 }
 
 // Whether member x of a row is the match of member y of another, and y that of x, where they have one name. Arguments are
@@ -37,32 +36,21 @@ fn both_match(work: &[u16], x: Member, y: Member) -> u16
     requires { T (mentions_below 64 x) × T (mentions_below 64 y) × (name_of x ≡ name_of y) × (work_size ≤ length work.now) }
     ensures { BothMatch work.now x y result }
 {
-    match x {
-        Member::Method {
-            name: _,
-            argument: a,
-            result: r,
-        } => match y {
+    match (x, y) {
+        (
             Member::Method {
-                name: _,
+                argument: a,
+                result: r,
+                ..
+            },
+            Member::Method {
                 argument: b,
                 result: s,
-            } => cell_of(work, b, a) & cell_of(work, r, s),
-            Member::Field { name: _, row: _ } => 0,
-        },
-        Member::Field { name: _, row: r } => match y {
-            Member::Method {
-                name: _,
-                argument: _,
-                result: _,
-            } => 0,
-            Member::Field { name: _, row: s } => {
-                if r == s {
-                    return 3;
-                }
-                0
-            }
-        },
+                ..
+            },
+        ) => cell_of(work, b, a) & cell_of(work, r, s),
+        (Member::Field { row: r, .. }, Member::Field { row: s, .. }) if r == s => 3,
+        _ => 0,
     }
 }
 
@@ -81,21 +69,15 @@ fn alike(work: &[u16], m: usize, k: usize) -> usize
     requires { (m < 64) × (k < 64) × (cell_of work.now (member_count_address m) ≤ 8) × (cell_of work.now (member_count_address k) ≤ 8) × (work_size ≤ length work.now) }
     ensures { AllAlike work.now m k result }
 {
-    let across = table::rows::member_count(work, m);
-    let down = table::rows::member_count(work, k);
-    let mut n: usize = 0;
-    while n < across {
-        if down <= n {
-            return n;
-        }
+    let common = table::rows::member_count(work, m).min(table::rows::member_count(work, k));
+    for n in 0..common {
         let x = table::rows::member(work, m, n);
         let y = table::rows::member(work, k, n);
         if !row_twins::same_member(x, y) {
             return n;
         }
-        n = n + 1;
     }
-    n
+    common
 }
 
 // What is left of the kinds' answers on rows m and k once their members are compared. Members that are the same match both ways, so
@@ -124,18 +106,18 @@ fn walk(work: &[u16], m: usize, k: usize, kinds: u16) -> u16
         let x = table::rows::member_name(work, m, i);
         let y = table::rows::member_name(work, k, j);
         if x < y {
-            left = left & 1;
-            i = i + 1;
+            left &= 1;
+            i += 1;
             continue;
         }
         if y < x {
-            left = left & 2;
-            j = j + 1;
+            left &= 2;
+            j += 1;
             continue;
         }
-        left = left & match_at(work, m, i, k, j);
-        i = i + 1;
-        j = j + 1;
+        left &= match_at(work, m, i, k, j);
+        i += 1;
+        j += 1;
     }
     0
 }
@@ -145,17 +127,13 @@ fn kinds_fit(work: &[u16], m: usize, k: usize) -> u16
     requires { (m < 64) × (k < 64) × (work_size ≤ length work.now) }
     ensures { result ≡ two_bits (kind_fits (row_in work.now m).kind (row_in work.now k).kind) (kind_fits (row_in work.now k).kind (row_in work.now m).kind) }
 {
-    let a = table::rows::row_kind(work, m);
-    let b = table::rows::row_kind(work, k);
-    match a {
-        Kind::Pure => match b {
-            Kind::Pure => 3,
-            Kind::Resource => 1,
-        },
-        Kind::Resource => match b {
-            Kind::Pure => 2,
-            Kind::Resource => 3,
-        },
+    match (
+        table::rows::row_kind(work, m),
+        table::rows::row_kind(work, k),
+    ) {
+        (Kind::Pure, Kind::Resource) => 1,
+        (Kind::Resource, Kind::Pure) => 2,
+        _ => 3,
     }
 }
 
@@ -164,13 +142,11 @@ fn turn(said: u16) -> u16
     requires { said ≤ 3 }
     ensures { result ≡ two_bits (second_bit said) (first_bit said) }
 {
-    if said == 1 {
-        return 2;
+    match said {
+        1 => 2,
+        2 => 1,
+        _ => said,
     }
-    if said == 2 {
-        return 1;
-    }
-    said
 }
 
 // Fills the cells (m, k) and (k, m).
@@ -189,10 +165,8 @@ fn fill_row(work: &mut [u16], m: usize)
     requires { Comparable (m + 1) work.old × SelfFit m work.old }
     ensures { work.new ≡ pairs_filled work.old m (m + 1) }
 {
-    let mut k: usize = 0;
-    while k <= m {
+    for k in 0..m + 1 {
         fill_pair(work, m, k);
-        k = k + 1;
     }
 }
 
@@ -201,9 +175,7 @@ pub fn fill(work: &mut [u16], rows: usize)
     requires { Comparable rows work.old }
     ensures { FitFilled rows work.old work.new }
 {
-    let mut m: usize = 0;
-    while m < rows {
+    for m in 0..rows {
         fill_row(work, m);
-        m = m + 1;
     }
 }

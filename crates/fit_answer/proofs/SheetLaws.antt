@@ -3,7 +3,7 @@
 use Prim.Native.Nat.{ℕ, ◌≤◌, ◌<◌}
 use native.Mathlib.Omega.{arith}
 use mathlib.Core.Path.{◌≡◌, refl, sym, ap, ap₂, ◌∙◌, subst}
-use mathlib.Core.Bool.{Bool, true, false, cond}
+use mathlib.Core.Bool.{Bool, cond}
 use mathlib.Core.List.{List}
 use mathlib.Core.Option.{some}
 use lib.ListN.{length}
@@ -12,7 +12,6 @@ use Rattle.sheet_rules.specs.declared.FitAnswer.TheVariants.{Yes, WrongKind, Unm
 use Rattle.sheet_rules.specs.Answers.{is_yes}
 use Rattle.sheet_rules.specs.Sheet.{Row, Sheet, row_at}
 use Rattle.sheet_rules.specs.WellFormed.{WellFormed}
-use Rattle.type_rules.specs.declared.FitReply.TheVariants.{Answered}
 use Rattle.type_rules.specs.declared.Walk.{Walk}
 use Rattle.type_rules.specs.Fit.{row_answer, fit_answer, fits}
 use Rattle.type_rules.specs.FitQuestion.{passed_in}
@@ -29,16 +28,7 @@ use Rattle.table.proofs.RowLaws.{rows-length}
 use Rattle.fit.specs.Told.{tells, FitFilled}
 use Rattle.fit.proofs.SheetLaws.{filled_sheet, sheet_tells}
 use Rattle.fit_answer.specs.Told.{row_of, rows_say, rows_walk, answers}
-
--- the table's word, and what it says
-
-pub told_yes : (w : List ℕ) (a b : ℕ) → tells w a b ≡ true → Yes ≡ answers w a b
-unfolding answers
-told_yes w a b e = sym (ap (λ (t : Bool). cond t Yes (rows_say w a b)) e)
-
-pub told_no : (w : List ℕ) (a b : ℕ) → tells w a b ≡ false → rows_say w a b ≡ answers w a b
-unfolding answers
-told_no w a b e = sym (ap (λ (t : Bool). cond t Yes (rows_say w a b)) e)
+use Rattle.std.specs.declared.result.Result.TheVariants.{Ok}
 
 -- an answer, from whether it is yes and, if not, the answer itself
 by_yes : (x : FitAnswer) → cond (is_yes x) Yes x ≡ x
@@ -76,10 +66,10 @@ module _ (w w' : List ℕ) (f : FitFilled (cell w row_count_at) w w') (well : We
       ∙ sym (fit_rule rows (λ i. (well.rows i).lower) a b)
 
   -- and the walk passes what it passes by that answer
-  pub sheet_passed : Whole w' → {r : Walk} → some r ≡ rows_walk w' a b → r.passed ≡ passed_in (sheet_in w) a b (Answered (fit_answer (sheet_in w).rows a b))
+  pub sheet_passed : Whole w' → {r : Walk} → some r ≡ rows_walk w' a b → r.passed ≡ passed_in (sheet_in w) a b (Ok (fit_answer (sheet_in w).rows a b))
   sheet_passed whole e =
       walk_passed whole a b e
-      ∙ ap₂ (λ (x : FitAnswer) (s : Sheet). passed_in s a b (Answered x)) sheet_rows (filled_sheet (cell w row_count_at) w w' f)
+      ∙ ap₂ (λ (x : FitAnswer) (s : Sheet). passed_in s a b (Ok x)) sheet_rows (filled_sheet (cell w row_count_at) w w' f)
 
   pub sheet_answers : answers w' a b ≡ fit_answer (sheet_in w).rows a b
   unfolding answers fits

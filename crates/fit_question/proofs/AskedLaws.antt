@@ -14,7 +14,10 @@ use Rattle.sheet_rules.specs.declared.Reason.TheVariants.{NotDefined}
 use Rattle.sheet_rules.specs.declared.Verdict.{Verdict}
 use Rattle.sheet_rules.specs.Reading.{Meaning}
 use Rattle.sheet_rules.specs.WellFormed.{WellFormed}
-use Rattle.type_rules.specs.declared.FitReply.{FitReply}
+use Rattle.sheet_rules.specs.Answers.{turned_away}
+use Rattle.sheet_rules.specs.declared.Refusal.{Refusal}
+use Rattle.std.specs.declared.result.Result.TheVariants.{Ok}
+use Rattle.std.specs.declared.result.Result.{Result}
 use Rattle.type_rules.specs.declared.FitTold.{FitTold}
 use Rattle.type_rules.specs.declared.Walk.{Walk}
 use Rattle.type_rules.specs.Fit.{fit_answer}
@@ -37,8 +40,8 @@ told_on a b m = record { reply = fit_on m a b; passed = passed_on m a b (fit_on 
 
 module _ (a b : ℕ) (w : List ℕ) {rows : ℕ} (counted : rows ≡ length (sheet_in w).rows) where
   -- what is told, by whether the rows are there
-  reply : Bool → Bool → FitReply
-  reply x y = cond (x && y) (FitReply.Answered (fit_answer (sheet_in w).rows a b)) (FitReply.Refused NotDefined 0)
+  reply : Bool → Bool → Result FitAnswer Refusal
+  reply x y = cond (x && y) (Ok (fit_answer (sheet_in w).rows a b)) (turned_away NotDefined 0)
 
   answer : Bool → Bool → FitTold
   answer x y = record { reply = reply x y; passed = passed_in (sheet_in w) a b (reply x y) }
@@ -76,12 +79,12 @@ module _ (a b : ℕ) (w : List ℕ) {rows : ℕ} (counted : rows ≡ length (she
     all : FitFilled (cell w row_count_at) w w'
     all = subst (λ (n : ℕ). FitFilled n w w') counted-here filled
 
-    pub fit_told_lem : WellFormed (sheet_in w) → ToldAlone (told_in (sheet_in w) a b) w w' (record { reply = FitReply.Answered r.answer; passed = r.passed })
+    pub fit_told_lem : WellFormed (sheet_in w) → ToldAlone (told_in (sheet_in w) a b) w w' (record { reply = Ok r.answer; passed = r.passed })
     unfolding answer reply
     fit_told_lem well =
         record {
           same =
-              ap₂ (λ (x : FitAnswer) (n : ℕ). record { reply = FitReply.Answered x; passed = n })
+              ap₂ (λ (x : FitAnswer) (n : ℕ). record { reply = Ok x; passed = n })
               (walk_says whole a b e ∙ sheet_rows w w' all well a b (omega arith) (omega arith))
               (sheet_passed w w' all well a b (omega arith) (omega arith) whole e)
               ∙ sym
@@ -91,6 +94,10 @@ module _ (a b : ℕ) (w : List ℕ) {rows : ℕ} (counted : rows ≡ length (she
           written = refl;
           only = Only-widen (omega arith) (omega arith) filled.only;
         }
+
+-- the walk over the sheet of a buffer is the walk over the buffer
+pub walked : {v w : List ℕ} (a b : ℕ) {r : Walk} → v ≡ w → some r ≡ rows_walk v a b → some r ≡ rows_walk w a b
+walked a b {r} e = subst (λ (x : List ℕ). some r ≡ rows_walk x a b) e
 
 -- of a text that can't be read, a refusal is told
 pub unread_told : {text w w₁ : List ℕ} {v : Verdict} → work_size ≤ length w → SheetRead text w w₁ v → (a b : ℕ) {q : Reason} {l : ℕ} → v ≡ Verdict.Refused q l

@@ -9,15 +9,16 @@ ghost use Rattle.table.specs.Whole.{Whole};
 ghost use Rattle.question.specs.Asked.{ToldAlone};
 ghost use Rattle.fit_question.specs.Asked.{told_in, FitAsked};
 
-use sheet_rules::{Reason, Verdict};
-use type_rules::{FitReply, FitTold};
+use sheet_rules::{Reason, Refusal};
+use table::sheet::Sheet;
+use type_rules::FitTold;
 
 // A refusal, no member passed.
-fn refused(reason: Reason, line: u32) -> FitTold
-    ensures { result ≡ told_refused reason line }
+fn refused(refusal: Refusal) -> FitTold
+    ensures { result ≡ told_refused refusal.reason refusal.line }
 {
     FitTold {
-        reply: FitReply::Refused { reason, line },
+        reply: Err(refusal),
         passed: 0,
     }
 }
@@ -28,29 +29,14 @@ fn told_in(a: usize, b: usize, work: &mut [u16]) -> FitTold
     ensures { ToldAlone (told_in (sheet_in work.old) a b) work.old work.new result }
 {
     let rows = table::rows::row_count(work);
-    if rows <= a {
-        return refused(Reason::NotDefined, 0);
-    }
-    if rows <= b {
-        return refused(Reason::NotDefined, 0);
+    if rows <= a || rows <= b {
+        return refused(Reason::NotDefined.at(0));
     }
     fit::fill(work, rows);
-    let walk = fit_answer::walk(work, a, b);
-    let answer = walk.answer;
+    let walk = fit_answer::walk(&Sheet::of(work), a, b);
     FitTold {
-        reply: FitReply::Answered { answer },
+        reply: Ok(walk.answer),
         passed: walk.passed as u32,
-    }
-}
-
-// What is told of a text, in a work buffer that is long enough.
-fn told(text: &[u8], a: usize, b: usize, work: &mut [u16]) -> FitTold
-    requires { work_size ≤ length work.old }
-    ensures { ToldAlone (fit_told text.now a b) work.old work.new result }
-{
-    match reader::read_sheet(text, work) {
-        Verdict::Accepted => told_in(a, b, work),
-        Verdict::Refused { reason, line } => refused(reason, line),
     }
 }
 
@@ -59,10 +45,18 @@ fn told(text: &[u8], a: usize, b: usize, work: &mut [u16]) -> FitTold
 pub fn ask_fit(text: &[u8], a: usize, b: usize, work: &mut [u16]) -> FitTold
     ensures { FitAsked text.now a b work.old work.new result }
 {
-    if !question::enough(work.len(), 0, 0) {
-        return refused(Reason::BufferTooShort, 0);
-    }
-    let answer = told(text, a, b, work);
-    question::clear(work);
-    answer
+    let short = refused(Reason::BufferTooShort.at(0));
+    question::ask(
+        work,
+        short,
+        |work: &mut [u16]| -> FitTold
+            requires { work_size ≤ length work.now }
+            ensures { ToldAlone (fit_told text.entry.now a b) work.entry.now work.exit.now result }
+        {
+            match reader::read_sheet(text, work).told() {
+                Ok(()) => told_in(a, b, work),
+                Err(refusal) => refused(refusal),
+            }
+        },
+    )
 }

@@ -6,10 +6,14 @@ use mathlib.Core.Bool.{Bool, true, false, cond}
 use mathlib.Core.List.{List, []}
 use lib.ListN.{length, take, drop}
 use denote.Ref.{Bor}
-use Rattle.sheet_rules.specs.declared.FormReply.{FormReply}
+use Rattle.sheet_rules.specs.Answers.{turned_away}
+use Rattle.sheet_rules.specs.declared.FormLines.{FormLines}
+use Rattle.sheet_rules.specs.declared.Refusal.{Refusal}
+use Rattle.std.specs.declared.result.Result.TheVariants.{Ok}
+use Rattle.std.specs.declared.result.Result.{Result}
 use Rattle.sheet_rules.specs.declared.Reason.TheVariants.{BufferTooShort, NotDefined}
 use Rattle.sheet_rules.specs.Sheet.{Sheet}
-use Rattle.sheet_rules.specs.Stretch.{form_in, form_reply, stretch_start, stretch_length}
+use Rattle.sheet_rules.specs.Stretch.{form_in, form_reply, stretch_start, stretch_length, stretch}
 use Rattle.sheet_rules.proofs.StretchLaws.{there_in, missing_in, given_within}
 use Rattle.question.specs.Asked.{enough}
 use Rattle.form_scan.specs.Borders.{border_place}
@@ -21,11 +25,11 @@ use Rattle.form_question.specs.Asked.{PlaceAsked, reply_in, FormAsked}
 -- over the table
 
 module _ (text : List ℕ) (s : Sheet) (f : ℕ) {forms : ℕ} (counted : forms ≡ length s.forms) where
-  pub form_missing : forms ≤ f → FormReply.Refused NotDefined 0 ≡ form_in text s f
+  pub form_missing : forms ≤ f → turned_away NotDefined 0 ≡ form_in text s f
   form_missing h = sym (missing_in text s f (omega arith))
 
   pub form_found : f < forms → {start : ℕ} → start ≡ border_place text 0 f → {end : ℕ} → end ≡ border_place text start 1
-      → FormReply.Lines start (end - start) ≡ form_in text s f
+      → Ok (stretch start (end - start)) ≡ form_in text s f
   form_found h a e = stretch_found text f a e ∙ sym (there_in text s f (omega arith))
 
 -- what is answered is a part of the text, in whatever buffer
@@ -33,13 +37,13 @@ module _ (text : List ℕ) (s : Sheet) (f : ℕ) {forms : ℕ} (counted : forms 
 asked_within : (text : List ℕ) (f : ℕ) (w : List ℕ) → stretch_start (reply_in text f w) + stretch_length (reply_in text f w) ≤ length text
 asked_within text f w = go (enough {B = ℕ} 0 w [])
   where
-    go : (b : Bool) → let r = cond b (form_reply text f) (FormReply.Refused BufferTooShort 0) in stretch_start r + stretch_length r ≤ length text
+    go : (b : Bool) → let r = cond b (form_reply text f) (turned_away BufferTooShort 0) in stretch_start r + stretch_length r ≤ length text
     go true = given_within text f
     go false = omega arith
 
 -- and it is given
 
-module _ (text : Bor (List ℕ)) (f : ℕ) {w w' : List ℕ} {reply : FormReply} (k : PlaceAsked text.now f w w' reply) {x : FormResult} (e : x ≡ form_result reply) where
+module _ (text : Bor (List ℕ)) (f : ℕ) {w w' : List ℕ} {reply : Result FormLines Refusal} (k : PlaceAsked text.now f w w' reply) {x : FormResult} (e : x ≡ form_result reply) where
   told : x ≡ form_result (reply_in text.now f w)
   told = e ∙ ap form_result k.told
 

@@ -2,19 +2,22 @@
 -- Stands on the rule's answer.
 use Rattle.std.specs.Prelude.{ℕ, ◌+◌, ◌≡◌, cond, List, [], take, drop}
 use Rattle.std.specs.Borrow.{Bor}
-use Rattle.sheet_rules.specs.declared.FormReply.{FormReply}
+use Rattle.sheet_rules.specs.Answers.{turned_away}
+use Rattle.sheet_rules.specs.declared.FormLines.{FormLines}
+use Rattle.sheet_rules.specs.declared.Refusal.{Refusal}
+use Rattle.std.specs.declared.result.Result.{Result}
 use Rattle.sheet_rules.specs.declared.Reason.TheVariants.{BufferTooShort}
 use Rattle.sheet_rules.specs.Stretch.{form_reply, reply_number, reply_line, stretch_start, stretch_length}
 use Rattle.question.specs.Asked.{enough, AskedAlone}
 use Rattle.question.specs.Cleared.{cleared}
 
 -- the promise of the place: the rule's answer, and the work buffer left as the paper says (document 01, Turned away)
-abbrev pub PlaceAsked : List ℕ → ℕ → (w w' : List ℕ) → FormReply → Type 0
-PlaceAsked text f w w' r = AskedAlone (form_reply text f) (FormReply.Refused BufferTooShort 0) w w' r
+abbrev pub PlaceAsked : List ℕ → ℕ → (w w' : List ℕ) → Result FormLines Refusal → Type 0
+PlaceAsked text f w w' r = AskedAlone (form_reply text f) (turned_away BufferTooShort 0) w w' r
 
 -- what is answered about a text in a work buffer: the rule's answer, or in one that is too short the refusal before all others
-abbrev pub reply_in : List ℕ → ℕ → List ℕ → FormReply
-reply_in text f w = cond (enough {B = ℕ} 0 w []) (form_reply text f) (FormReply.Refused BufferTooShort 0)
+abbrev pub reply_in : List ℕ → ℕ → List ℕ → Result FormLines Refusal
+reply_in text f w = cond (enough {B = ℕ} 0 w []) (form_reply text f) (turned_away BufferTooShort 0)
 
 -- a part of the caller's own text, not a copy: it stands in the same block of memory, `start` bytes after the text's first
 pub record StretchOf (text : Bor (List ℕ)) (start size : ℕ) (part : Bor (List ℕ)) : Type 0 where

@@ -5,58 +5,46 @@ ghost use Rattle.std.specs.Prelude.{◌≡◌, ◌≤◌, length};
 ghost use Rattle.sheet_rules.specs.Stretch.{form_in, form_reply};
 ghost use Rattle.table.specs.Layout.{work_size};
 ghost use Rattle.table.specs.View.{sheet_in};
-ghost use Rattle.table.specs.Whole.{Whole};
 ghost use Rattle.question.specs.Asked.{ToldAlone};
 ghost use Rattle.form_question.specs.Asked.{PlaceAsked, FormAsked};
 
 use form_scan::find_border;
-use sheet_rules::{FormReply, Reason, Verdict};
+use sheet_rules::{FormLines, Reason, Refusal};
+use table::sheet::Sheet;
 
 // Where a form's lines stand in a text, for the sheet of that text, which the table holds.
-fn place_in(text: &[u8], form: usize, work: &[u16]) -> FormReply
-    requires { Whole work.now }
-    ensures { result ≡ form_in text.now (sheet_in work.now) form }
+fn place_in(text: &[u8], form: usize, sheet: &Sheet<'_>) -> Result<FormLines, Refusal>
+    ensures { result ≡ form_in text.now (sheet_in sheet.now) form }
 {
-    if table::forms::form_count(work) <= form {
-        return FormReply::Refused {
-            reason: Reason::NotDefined,
-            line: 0,
-        };
+    if sheet.form_count() <= form {
+        return Err(Reason::NotDefined.at(0));
     }
     let start = find_border(text, 0, form);
     // From there on the form's own border is number 0, and the next one number 1.
     let end = find_border(text, start, 1);
-    FormReply::Lines {
+    Ok(FormLines {
         start,
         length: end - start,
-    }
-}
-
-// The answer for a text, in a work buffer that is long enough.
-fn place_of(text: &[u8], form: usize, work: &mut [u16]) -> FormReply
-    requires { work_size ≤ length work.old }
-    ensures { ToldAlone (form_reply text.now form) work.old work.new result }
-{
-    match reader::read_sheet(text, work) {
-        Verdict::Accepted => place_in(text, form, work),
-        Verdict::Refused { reason, line } => FormReply::Refused { reason, line },
-    }
+    })
 }
 
 // Where a form's lines stand in a text, from its `form` line to the last one before the next form or `main`; or a refusal from 1 to 7
 // with its line. The sheet only has to be readable.
-pub fn ask_place(text: &[u8], form: usize, work: &mut [u16]) -> FormReply
+pub fn ask_place(text: &[u8], form: usize, work: &mut [u16]) -> Result<FormLines, Refusal>
     ensures { PlaceAsked text.now form work.old work.new result }
 {
-    if !question::enough(work.len(), 0, 0) {
-        return FormReply::Refused {
-            reason: Reason::BufferTooShort,
-            line: 0,
-        };
-    }
-    let answer = place_of(text, form, work);
-    question::clear(work);
-    answer
+    let short = Err(Reason::BufferTooShort.at(0));
+    question::ask(
+        work,
+        short,
+        |work: &mut [u16]| -> Result<FormLines, Refusal>
+            requires { work_size ≤ length work.now }
+            ensures { ToldAlone (form_reply text.entry.now form) work.entry.now work.exit.now result }
+        {
+            reader::read_sheet(text, work).told()?;
+            place_in(text, form, &Sheet::of(work))
+        },
+    )
 }
 
 // A form's lines as that part of the text itself, with 0 and 0 in the two numbers; after a refusal an empty part, at the text's

@@ -7,7 +7,6 @@ use lib.ListN.{length}
 use Rattle.lists.proofs.TabLaws.{tab_ext, length-tab, get_or-tab}
 use Rattle.sheet_rules.specs.declared.Place.{Place}
 use Rattle.sheet_rules.specs.declared.Member.{Member}
-use Rattle.sheet_rules.specs.declared.Reason.{Reason}
 use Rattle.sheet_rules.specs.Sheet.{Row, Part, Form, no_row, row_at, size_of_parts}
 use Rattle.sheet_rules.specs.Reader.{Read, and_then, give, one, many, existing_line}
 use Rattle.table.specs.Layout.{row_address, form_address, keep_address, part_address}
@@ -19,13 +18,15 @@ use Rattle.table.proofs.RowLaws.{members-length}
 use Rattle.table.proofs.PoolLaws.{from_trans, from→only, only→from, row_kept}
 use Rattle.table.proofs.StoreLaws.{three_only, three_0, three_1, three_2}
 use Rattle.line_reader.specs.declared.Cursor.{Cursor}
-use Rattle.line_reader.specs.declared.Progress.{Progress}
 use Rattle.line_reader.specs.Told.{Room, read_from, read_told, Advanced}
 use Rattle.reader_loop.proofs.LoopLaws.{Moved, Moved-on}
 use Rattle.reader_loop.proofs.ThenLaws.{Moved-then, moved_stop, Advanced-sooner}
 use Rattle.number_reader.specs.Reads.{KeepsRead}
 use Rattle.form_reader.specs.Reads.{PartsReady, part_item, PartsRead, FormRead, parts_rest, form_rest}
-use Rattle.part_reader.proofs.PartLaws.{not_moved}
+use Rattle.line_reader.proofs.ExitLaws.{Passes, passed_on, no_answer}
+use Rattle.std.specs.declared.result.Result.{Result}
+use Rattle.std.specs.declared.result.Result.TheVariants.{Ok, Err}
+use Rattle.sheet_rules.specs.declared.Refusal.{Refusal}
 
 -- a row's members are few enough for a number of the buffer
 pub few_members : {rows row₁ row parts : ℕ} {w : List ℕ} → Ready rows w → row < rows → row₁ ≡ row → parts ≡ cell w (row_address row₁ + 1) → parts ≤ 8
@@ -33,7 +34,7 @@ few_members {row₁ = row₁} ready h e c = let a = ready.few row₁ (omega arit
 
 module _ {text : List ℕ} {f row keeps rows : ℕ} (forms : ℕ) {from : Cursor} {w : List ℕ} (start : Room text from) (hf : f < 64) (hr : row < rows) (few : keeps ≤ 8) (ready : Ready rows w)
     {row₁ : ℕ} (row_is : row₁ ≡ row) {parts : ℕ} (counted₁ : parts ≡ cell w (row_address row₁ + 1)) {w₁ : List ℕ} (stored : w₁ ≡ heading_put w f row keeps parts)
-    {keeps₁ : ℕ} (keeps-are : keeps₁ ≡ keeps) {w₂ : List ℕ} {r : Progress} (k₁ : KeepsRead text f keeps₁ rows from w₁ w₂ r) where
+    {keeps₁ : ℕ} (keeps-are : keeps₁ ≡ keeps) {w₂ : List ℕ} {r : Result Cursor Refusal} (k₁ : KeepsRead text f keeps₁ rows from w₁ w₂ r) where
   counted : parts ≡ cell w (row_address row + 1)
   counted = counted₁ ∙ ap (λ (x : ℕ). cell w (row_address x + 1)) row_is
 
@@ -63,10 +64,11 @@ module _ {text : List ℕ} {f row keeps rows : ℕ} (forms : ℕ) {from : Cursor
   keeps_told : read_told text r (keeps_in w₂ f keeps) ≡ read_from text from (many keeps (λ before. one (existing_line Place.Keep (length (rows_in w rows)))) [])
   keeps_told = k.told ∙ ap (λ (m : ℕ). read_from text from (many keeps (λ before. one (existing_line Place.Keep m)) [])) (sym rows-length)
 
-  pub keeps_refused : {q : Reason} {l : ℕ} → r ≡ Progress.Refused q l → FormRead text f (form_rest (rows_in w rows) forms from.used (record { row = row; count = keeps })) from w w₂ r
+  pub keeps_refused : {q : Refusal} → r ≡ Err q → {s : Result Cursor Refusal} → Passes s q
+      → FormRead text f (form_rest (rows_in w rows) forms from.used (record { row = row; count = keeps })) from w w₂ s
   unfolding form_rest
-  keeps_refused e =
-      subst (FormRead text f (form_rest (rows_in w rows) forms from.used (record { row = row; count = keeps })) from w w₂) (sym e)
+  keeps_refused e h =
+      passed_on (FormRead text f (form_rest (rows_in w rows) forms from.used (record { row = row; count = keeps })) from w w₂) h
       (record {
         read =
             record {
@@ -75,7 +77,7 @@ module _ {text : List ℕ} {f row keeps rows : ℕ} (forms : ℕ) {from : Cursor
               advanced = Advanced.stopped;
             };
         pool = keeps_pool;
-        ends = λ to c. not_moved c;
+        ends = λ to c. no_answer c;
       })
 
   -- what reading the parts asks for
@@ -91,14 +93,14 @@ module _ {text : List ℕ} {f row keeps rows : ℕ} (forms : ℕ) {from : Cursor
         size = omega (arith, keeps_pool.size, ready.size);
       })
 
-  module _ {next : Cursor} (moved : r ≡ Progress.Moved next) where
+  module _ {next : Cursor} (moved : r ≡ Ok next) where
     there : Moved text from from.used next
     there = Moved-on moved k.advanced
 
     pub parts_room : Room text next
     parts_room = there.room
 
-    module _ {row₂ : ℕ} (row-still : row₂ ≡ row) {w' : List ℕ} {p : Progress} (m₁ : PartsRead text f parts (part_item (row_in w₂ row₂).members forms keeps next.used) next w₂ w' p) where
+    module _ {row₂ : ℕ} (row-still : row₂ ≡ row) {w' : List ℕ} {p : Result Cursor Refusal} (m₁ : PartsRead text f parts (part_item (row_in w₂ row₂).members forms keeps next.used) next w₂ w' p) where
       m : PartsRead text f parts (part_item (row_in w₂ row).members forms keeps next.used) next w₂ w' p
       m = subst (λ (x : ℕ). PartsRead text f parts (part_item (row_in w₂ x).members forms keeps next.used) next w₂ w' p) row-still m₁
 
@@ -146,10 +148,10 @@ module _ {text : List ℕ} {f row keeps rows : ℕ} (forms : ℕ) {from : Cursor
       unfolding parts_of
       parts_told = m.read.told ∙ λ x. parts_of (members_count x) (members_same x) (keeps_count x) (there.pool x)
 
-      each : (s : Progress) → read_told text s (form_of (parts_in w' f parts)) ≡ and_then (read_told text s (parts_in w' f parts)) (λ ps. give (form_of ps))
+      each : (s : Result Cursor Refusal) → read_told text s (form_of (parts_in w' f parts)) ≡ and_then (read_told text s (parts_in w' f parts)) (λ ps. give (form_of ps))
       unfolding and_then
-      each (Progress.Moved to) = refl
-      each (Progress.Refused q l) = refl
+      each (Ok to) = refl
+      each (Err q) = refl
 
       form_told : read_told text p (form_in w' f) ≡ read_from text from (form_rest (rows_in w rows) forms from.used (record { row = row; count = keeps }))
       unfolding form_rest parts_rest

@@ -3,11 +3,10 @@ use Prim.Native.Nat.{ℕ, suc, ◌+◌, ◌≤◌, ◌<◌}
 use native.Mathlib.Omega.{arith}
 use native.Mathlib.Decide.{dec_le}
 use native.Mathlib.Numerals.{add-one}
-use mathlib.Core.Path.{◌≡◌, refl, sym, ap, ap₂, ◌∙◌, subst}
+use mathlib.Core.Path.{◌≡◌, refl, ap, ap₂, ◌∙◌, subst}
 use mathlib.Core.List.{List}
 use Rattle.lists.specs.Tab.{tab}
 use Rattle.lists.proofs.TabLaws.{tab-suc, tab_ext}
-use Rattle.sheet_rules.specs.declared.Reason.{Reason}
 use Rattle.sheet_rules.specs.Sheet.{Row, Form, size_of_parts, size_of_forms}
 use Rattle.sheet_rules.specs.FormLines.{read_form}
 use Rattle.sheet_rules.proofs.SizeLaws.{forms_snoc}
@@ -19,11 +18,13 @@ use Rattle.table.proofs.ViewLaws.{Only-widen}
 use Rattle.table.proofs.RowLaws.{Ready-kept}
 use Rattle.table.proofs.PoolLaws.{from_refl, from_trans, from→only, row_kept, form_kept, FormEnds-kept}
 use Rattle.line_reader.specs.declared.Cursor.{Cursor}
-use Rattle.line_reader.specs.declared.Progress.{Progress}
 use Rattle.line_reader.specs.Told.{Room, read_from, Advanced}
 use Rattle.reader_loop.proofs.LoopLaws.{Moved-on, Going, Turn, Going-start, Going-next, going_stop, going_end}
 use Rattle.form_reader.specs.Reads.{FormRead, parts_rest, form_rest, form_reader, form_items, FormsRead}
-use Rattle.part_reader.proofs.PartLaws.{not_moved, Moved-same}
+use Rattle.std.specs.declared.result.Result.{Result}
+use Rattle.std.specs.declared.result.Result.TheVariants.{Ok, Err}
+use Rattle.sheet_rules.specs.declared.Refusal.{Refusal}
+use Rattle.line_reader.proofs.ExitLaws.{Passes, none_passed, same_answer}
 
 -- the rule's reader of a form depends on the earlier ones by their instructions alone
 reader_by : (rows : List Row) (forms : ℕ) (earlier : List Form) (text : List ℕ) (c : Cursor) → read_from text c (form_reader rows forms (size_of_forms earlier)) ≡ read_from text c (read_form rows forms earlier)
@@ -53,7 +54,7 @@ module _ {text : List ℕ} {rows count : ℕ} {from : Cursor} {w₀ w : List ℕ
   forms_ready r = Ready-kept rows (form_address 0) table_end w₀ w (omega arith) (from→only (form_address 0) 0 g.pool) r
 
   -- a turn, by what the reader of a form gave
-  module _ (small : count ≤ 64) (l : f < count) {w' : List ℕ} {r : Progress} (read : FormRead text f (form_reader (rows_in w rows) count here.used) here w w' r) where
+  module _ (small : count ≤ 64) (l : f < count) {w' : List ℕ} {r : Result Cursor Refusal} (read : FormRead text f (form_reader (rows_in w rows) count here.used) here w w' r) where
     forms_before : forms_in w' f ≡ forms_in w f
     forms_before = tab_ext (form_in w') (form_in w) f (λ k h. form_kept (form_address f) here.used w w' read.pool g.going.room.pool k (omega arith) (g.ends k h))
 
@@ -79,10 +80,10 @@ module _ {text : List ℕ} {rows count : ℕ} {from : Cursor} {w₀ w : List ℕ
           kept = forms_before;
         }
 
-    pub forms_stop : {q : Reason} {n : ℕ} → r ≡ Progress.Refused q n → FormsRead text rows count from w₀ w' r
-    forms_stop c = record { read = going_stop g.going l c turn; ends = λ to d. not_moved (sym c ∙ d) }
+    pub forms_stop : {q : Refusal} → r ≡ Err q → {s : Result Cursor Refusal} → Passes s q → FormsRead text rows count from w₀ w' s
+    forms_stop c h = record { read = going_stop g.going l c turn h; ends = λ to d. none_passed _ h d }
 
-    pub forms_next : {to : Cursor} → r ≡ Progress.Moved to → FormsGoing text rows count from w₀ w' (f + 1) to
+    pub forms_next : {to : Cursor} → r ≡ Ok to → FormsGoing text rows count from w₀ w' (f + 1) to
     forms_next {to} c =
         record {
           ends = ends';
@@ -100,9 +101,9 @@ module _ {text : List ℕ} {rows count : ℕ} {from : Cursor} {w₀ w : List ℕ
             go (yes x) = FormEnds-kept (form_address f) here.used w w' read.pool g.going.room.pool k to.used grows (omega arith) (g.ends k x)
             go (no x) = let e : f ≡ k = omega arith in subst (λ (i : ℕ). FormEnds w' i to.used) e (read.ends to c)
 
-  pub forms_end : count ≤ f → FormsRead text rows count from w₀ w (Progress.Moved here)
+  pub forms_end : count ≤ f → FormsRead text rows count from w₀ w (Ok here)
   forms_end l =
       record {
         read = going_end g.going l;
-        ends = λ to d k h. subst (λ (c : Cursor). FormEnds w k c.used) (Moved-same d) (g.ends k (omega (arith, g.going.within)));
+        ends = λ to d k h. subst (λ (c : Cursor). FormEnds w k c.used) (same_answer d) (g.ends k (omega (arith, g.going.within)));
       }

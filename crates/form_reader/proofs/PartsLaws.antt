@@ -9,7 +9,6 @@ use lib.ListN.{length, get_or}
 use Rattle.lists.specs.Tab.{tab}
 use Rattle.lists.proofs.TabLaws.{tab-suc, tab_ext, length-tab}
 use Rattle.sheet_rules.specs.declared.Member.{Member}
-use Rattle.sheet_rules.specs.declared.Reason.{Reason}
 use Rattle.sheet_rules.specs.Sheet.{Part, no_member, size_of_part, size_of_parts}
 use Rattle.sheet_rules.specs.Reader.{Reader}
 use Rattle.sheet_rules.specs.FormLines.{read_part}
@@ -21,12 +20,14 @@ use Rattle.table.proofs.ViewLaws.{member_same, Only-widen}
 use Rattle.table.proofs.RowLaws.{members-get_or}
 use Rattle.table.proofs.PoolLaws.{from_refl, from_trans, end_kept, part_kept}
 use Rattle.line_reader.specs.declared.Cursor.{Cursor}
-use Rattle.line_reader.specs.declared.Progress.{Progress}
 use Rattle.line_reader.specs.Told.{Room, read_from, Advanced}
 use Rattle.reader_loop.proofs.LoopLaws.{Moved-on, Going, Turn, Going-start, Going-next, going_stop, going_end}
 use Rattle.part_reader.specs.Reads.{PartRead}
-use Rattle.part_reader.proofs.PartLaws.{not_moved, Moved-same}
 use Rattle.form_reader.specs.Reads.{PartsReady, part_item, part_items, PartsRead}
+use Rattle.std.specs.declared.result.Result.{Result}
+use Rattle.std.specs.declared.result.Result.TheVariants.{Ok, Err}
+use Rattle.sheet_rules.specs.declared.Refusal.{Refusal}
+use Rattle.line_reader.proofs.ExitLaws.{Passes, none_passed, same_answer}
 
 -- where the loop stands
 pub record PartsGoing (text : List ℕ) (f count : ℕ) (item : List Part → Reader Part) (from : Cursor) (w₀ w : List ℕ) (j : ℕ) (here : Cursor) : Type 0 where
@@ -46,7 +47,7 @@ parts_start {f = f} {from = from} {w = w} room =
 -- a turn, by what the reader of a part gave
 module _ {text : List ℕ} {f row count : ℕ} (forms : ℕ) {keeps : ℕ} {from : Cursor} {w₀ w : List ℕ} {j : ℕ} {here : Cursor} (ready : PartsReady w₀ f row count keeps)
     (g : PartsGoing text f count (part_item (row_in w₀ row).members forms keeps from.used) from w₀ w j here) (l : j < count)
-    {m : Member} (e : m ≡ member_in w row j) {w' : List ℕ} {r : Progress} (read : PartRead text f j (read_part forms keeps here.used m) here w w' r) where
+    {m : Member} (e : m ≡ member_in w row j) {w' : List ℕ} {r : Result Cursor Refusal} (read : PartRead text f j (read_part forms keeps here.used m) here w w' r) where
   member_asked : m ≡ get_or (row_in w₀ row).members (length (parts_in w f j)) no_member
   member_asked =
       e
@@ -81,10 +82,10 @@ module _ {text : List ℕ} {f row count : ℕ} (forms : ℕ) {keeps : ℕ} {from
   pool' : OnlyFrom (part_address f 0) from.used w₀ w'
   pool' = from_trans {lo' = part_address f j} {p' = here.used} (omega arith) (omega (arith, g.going.pool)) g.pool read.pool
 
-  pub parts_stop : {q : Reason} {n : ℕ} → r ≡ Progress.Refused q n → PartsRead text f count (part_item (row_in w₀ row).members forms keeps from.used) from w₀ w' r
-  parts_stop c = record { read = going_stop g.going l c turn; pool = pool'; ends = λ to d. not_moved (sym c ∙ d) }
+  pub parts_stop : {q : Refusal} → r ≡ Err q → {s : Result Cursor Refusal} → Passes s q → PartsRead text f count (part_item (row_in w₀ row).members forms keeps from.used) from w₀ w' s
+  parts_stop c h = record { read = going_stop g.going l c turn h; pool = pool'; ends = λ to d. none_passed _ h d }
 
-  pub parts_next : {to : Cursor} → r ≡ Progress.Moved to → PartsGoing text f count (part_item (row_in w₀ row).members forms keeps from.used) from w₀ w' (j + 1) to
+  pub parts_next : {to : Cursor} → r ≡ Ok to → PartsGoing text f count (part_item (row_in w₀ row).members forms keeps from.used) from w₀ w' (j + 1) to
   parts_next {to} c = record { ends = ends'; pool = pool'; going = Going-next g.going l c turn }
     where
       ends' : PartsEnd w' f (j + 1) to.used
@@ -101,10 +102,10 @@ module _ {text : List ℕ} {f row count : ℕ} (forms : ℕ) {keeps : ℕ} {from
               subst (λ (i : ℕ). part_end w' f i ≤ to.used) i (read.ends to c)
 
 pub parts_end : {text : List ℕ} {f count : ℕ} {item : List Part → Reader Part} {from : Cursor} {w₀ w : List ℕ} {j : ℕ} {here : Cursor} → PartsGoing text f count item from w₀ w j here
-    → count ≤ j → PartsRead text f count item from w₀ w (Progress.Moved here)
+    → count ≤ j → PartsRead text f count item from w₀ w (Ok here)
 parts_end {f = f} {count = count} {w = w} {j = j} {here = here} g l =
     record {
       read = going_end g.going l;
       pool = g.pool;
-      ends = λ to d k h. subst (λ (c : Cursor). part_end w f k ≤ c.used) (Moved-same d) (g.ends k (omega (arith, g.going.within)));
+      ends = λ to d k h. subst (λ (c : Cursor). part_end w f k ≤ c.used) (same_answer d) (g.ends k (omega (arith, g.going.within)));
     }

@@ -9,8 +9,10 @@ use Rattle.table.specs.Layout.{member_count_address, form_address, part_address,
 use Rattle.table.specs.View.{cell, rows_in, part_in, parts_in, form_in, forms_in}
 use Rattle.table.specs.Pool.{OnlyFrom, PartsEnd, FormEnds}
 use Rattle.line_reader.specs.declared.Cursor.{Cursor}
-use Rattle.line_reader.specs.declared.Progress.{Progress}
 use Rattle.reader_loop.specs.Items.{ItemRead, Items, ItemsRead}
+use Rattle.std.specs.declared.result.Result.{Result}
+use Rattle.std.specs.declared.result.Result.TheVariants.{Ok}
+use Rattle.sheet_rules.specs.declared.Refusal.{Refusal}
 
 -- where a form's parts may be stored: the form's and the row's numbers are small, the row has `count` members
 pub record PartsReady (w : List ℕ) (f row count keeps : ℕ) : Type 0 where
@@ -37,16 +39,16 @@ part_items item f start =
     }
 
 -- all parts of a form, read: their instructions are the next of the pool
-pub record PartsRead (text : List ℕ) (f count : ℕ) (item : List Part → Reader Part) (from : Cursor) (w w' : List ℕ) (r : Progress) : Type 0 where
+pub record PartsRead (text : List ℕ) (f count : ℕ) (item : List Part → Reader Part) (from : Cursor) (w w' : List ℕ) (r : Result Cursor Refusal) : Type 0 where
   pub read : ItemsRead text (part_items item f from.used) count from w w' r
   pub pool : OnlyFrom (part_address f 0) from.used w w'
-  pub ends : (to : Cursor) → r ≡ Progress.Moved to → PartsEnd w' f count to.used
+  pub ends : (to : Cursor) → r ≡ Ok to → PartsEnd w' f count to.used
 
 -- form f, read by a reader of forms: its instructions are the next of the pool
-pub record FormRead (text : List ℕ) (f : ℕ) (form : Reader Form) (from : Cursor) (w w' : List ℕ) (r : Progress) : Type 0 where
+pub record FormRead (text : List ℕ) (f : ℕ) (form : Reader Form) (from : Cursor) (w w' : List ℕ) (r : Result Cursor Refusal) : Type 0 where
   pub read : ItemRead text form (λ x. form_in x f) (λ x. from.used + size_of_parts (form_in x f).parts) (form_address f) table_end from w w' r
   pub pool : OnlyFrom (form_address f) from.used w w'
-  pub ends : (to : Cursor) → r ≡ Progress.Moved to → FormEnds w' f to.used
+  pub ends : (to : Cursor) → r ≡ Ok to → FormEnds w' f to.used
 
 -- a form after its kept rows, and after its heading
 unfoldable pub parts_rest : List Member → ℕ → ℕ → ℕ → List ℕ → Reader Form
@@ -74,9 +76,9 @@ form_items rows count =
     }
 
 -- all forms of a sheet of `rows` rows, read
-pub record FormsRead (text : List ℕ) (rows count : ℕ) (from : Cursor) (w w' : List ℕ) (r : Progress) : Type 0 where
+pub record FormsRead (text : List ℕ) (rows count : ℕ) (from : Cursor) (w w' : List ℕ) (r : Result Cursor Refusal) : Type 0 where
   pub read : ItemsRead text (form_items (rows_in w rows) count) count from w w' r
-  pub ends : (to : Cursor) → r ≡ Progress.Moved to → (f : ℕ) → f < count → FormEnds w' f to.used
+  pub ends : (to : Cursor) → r ≡ Ok to → (f : ℕ) → f < count → FormEnds w' f to.used
 
 -- after a sheet's forms, u instructions were read
 pub record FormsUsed (w : List ℕ) (count u : ℕ) : Type 0 where

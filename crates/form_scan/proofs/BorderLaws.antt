@@ -1,21 +1,21 @@
 -- A text's lines one after another: where a line ends, whether it is a border, and the place of the next border. Assumes nothing.
-use Prim.Native.Nat.{ℕ, zero, suc, ◌+◌, ◌-◌, ◌≤◌, ◌<◌}
+use Prim.Native.Nat.{ℕ, zero, suc, ◌+◌, ◌-◌, ◌≤◌, ◌<◌, min}
 use native.Mathlib.Omega.{arith}
 use mathlib.Core.Path.{◌≡◌, refl, sym, ap, ◌∙◌, subst}
-use mathlib.Core.Bool.{Bool, true, false, cond, not, ◌&&◌, ◌||◌}
-use mathlib.Core.List.{List, [], ◌∷◌, flatten}
-use lib.Dec.{T, eqb}
+use mathlib.Core.Bool.{Bool, true, false, cond, ◌&&◌, ◌||◌}
+use mathlib.Core.List.{List, [], ◌∷◌, flatten, ◌++◌}
+use lib.Dec.{eqb}
 use lib.ListN.{length, get_or, take, drop, length-append, length-drop, drop_of_length-le}
-use lib.Seq.{take_all, drop-cons, drop-drop}
-use borrow.Author.Tests.{eqb-true, eq-eqb, ne_eqb, not-true, not-false}
-use Rattle.lists.specs.AnyAll.{all}
+use lib.Seq.{drop-cons, drop-drop, take-append_seam, drop-append_seam}
+use Rattle.std.specs.Borrow.{Bor}
+use Rattle.std.specs.Fn.{Mut, Called, ComputesKey}
+use Rattle.std.specs.List.{IsFirstMatchOrLen, starts_with}
+use Rattle.std.proofs.lemmas.List.Sorted.{answers_always}
+use Rattle.std.proofs.lemmas.List.{take_min}
 use Rattle.lists.specs.BeforeNth.{before_nth}
 use Rattle.lists.proofs.BeforeNthLaws.{nth_here, nth_later, nth_other}
-use Rattle.lists.proofs.Tests.{and_left, and_right, T→true}
-use Rattle.sheet_rules.specs.declared.Place.{Place}
 use Rattle.sheet_rules.specs.Keys.{bytes}
 use Rattle.sheet_rules.specs.Lines.{newline, in_front}
-use Rattle.sheet_rules.specs.Print.{key_text}
 use Rattle.sheet_rules.specs.Stretch.{text_lines, begins, form_border}
 use Rattle.form_scan.specs.Borders.{first_line, line_length, border_place}
 
@@ -50,13 +50,6 @@ lines_on b (c ∷ cs) = go (eqb b newline) (lines_on c cs)
     go true later = refl
     go false later = subst (λ (ls : List (List ℕ)). Splits (b ∷ c ∷ cs) (in_front b ls)) (sym later) refl
 
-first_some : (b : ℕ) (bs : List ℕ) → 1 ≤ line_length (b ∷ bs)
-first_some b bs = go (eqb b newline) refl
-  where
-    go : (x : Bool) → eqb b newline ≡ x → 1 ≤ line_length (b ∷ bs)
-    go true e = omega (arith, ap length (first_ends b bs e))
-    go false e = omega (arith, ap length (first_more b bs e))
-
 pub first_within : (bs : List ℕ) → line_length bs ≤ length bs
 unfolding text_lines
 first_within [] = omega arith
@@ -66,31 +59,29 @@ first_within (b ∷ bs) = go (eqb b newline) refl (first_within bs)
     go true e later = omega (arith, ap length (first_ends b bs e))
     go false e later = omega (arith, ap length (first_more b bs e), later)
 
--- A BORDER IS TOLD BY THE BYTES FROM ITS PLACE ON
+-- a line is cut off after its first byte 10, or at the end
+first_cut : (bs : List ℕ) (i : ℕ) → IsFirstMatchOrLen (λ b. eqb b newline) bs i → take (suc i) bs ≡ first_line bs
+unfolding text_lines
+first_cut [] i m = refl
+first_cut (b ∷ bs) zero m = sym (first_ends b bs (m.1 (omega arith) 0))
+first_cut (b ∷ bs) (suc i) m =
+    ap (λ (l : List ℕ). b ∷ l) (first_cut bs i ((λ k d l h. m.0 (suc k) d (omega arith) (omega arith)), λ h d. m.1 (omega arith) d))
+    ∙ sym (first_more b bs (m.0 0 0 (omega arith) (omega arith)))
 
--- a word without byte 10 stands within a line
-begins_first : (w bs : List ℕ) → T (all (λ c. not (eqb c newline)) w) → begins w (first_line bs) ≡ begins w bs
-unfolding begins text_lines all
-begins_first [] bs t = refl
-begins_first (c ∷ cs) [] t = refl
-begins_first (c ∷ cs) (b ∷ bs) t = go (eqb b newline) refl (begins_first cs bs (and_right (not (eqb c newline)) (all (λ d. not (eqb d newline)) cs) t))
-  where
-    other : eqb b newline ≡ true → eqb c b ≡ false
-    other e = ap (eqb c) (eqb-true b newline e) ∙ not-true (eqb c newline) (T→true (not (eqb c newline)) (and_left (not (eqb c newline)) (all (λ d. not (eqb d newline)) cs) t))
+pub line_cut : (bs x rest : List ℕ) (i : ℕ) → bs ≡ x ++ rest → length x ≡ min (i + 1) (length bs) → IsFirstMatchOrLen (λ b. eqb b newline) bs i → x ≡ first_line bs
+line_cut bs x rest i e n m =
+    sym (take-append_seam x rest) ∙ ap (take (length x)) (sym e) ∙ ap (λ (k : ℕ). take k bs) n ∙ take_min (i + 1) bs
+    ∙ ap (λ (k : ℕ). take k bs) (let z : i + 1 ≡ suc i = omega arith in z) ∙ first_cut bs i m
 
-    go : (x : Bool) → eqb b newline ≡ x → begins cs (first_line bs) ≡ begins cs bs → begins (c ∷ cs) (first_line (b ∷ bs)) ≡ begins (c ∷ cs) (b ∷ bs)
-    go true e later =
-        ap (begins (c ∷ cs)) (first_ends b bs e)
-        ∙ ap (λ (x : Bool). x && begins cs []) (other e)
-        ∙ sym (ap (λ (x : Bool). x && begins cs bs) (other e))
-    go false e later = ap (begins (c ∷ cs)) (first_more b bs e) ∙ ap (λ (x : Bool). eqb c b && x) later
+-- A BORDER IS TOLD BY ITS FIRST WORD
 
-border_first : (bs : List ℕ) → form_border (first_line bs) ≡ form_border bs
-unfolding bytes all
-border_first bs =
-    λ i. begins_first (key_text Place.Form) bs tt i || (begins_first (key_text Place.Devices) bs tt i || begins_first (key_text Place.Main) bs tt i)
+begins_word : (w bs : List ℕ) → starts_with eqb bs w ≡ begins w bs
+unfolding begins
+begins_word [] bs = refl
+begins_word (c ∷ cs) [] = refl
+begins_word (c ∷ cs) (b ∷ bs) = ap (λ (x : Bool). eqb c b && x) (begins_word cs bs)
 
--- and in the code by its three words, `form=`, `devices=` and `main=`
+-- the bytes of the three words, `form=`, `devices=` and `main=`
 abbrev form_word : List ℕ
 form_word = 102 ∷ 111 ∷ 114 ∷ 109 ∷ 61 ∷ []
 
@@ -100,78 +91,22 @@ devices_word = 100 ∷ 101 ∷ 118 ∷ 105 ∷ 99 ∷ 101 ∷ 115 ∷ 61 ∷ []
 abbrev main_word : List ℕ
 main_word = 109 ∷ 97 ∷ 105 ∷ 110 ∷ 61 ∷ []
 
-module _ (bs : List ℕ) {r : Bool} (e : r ≡ begins form_word bs) where
-  pub is_form : r ≡ true → true ≡ form_border bs
+-- what is answered of each
+module _ (l : List ℕ) {a : Bool} (form : a ≡ starts_with eqb l form_word) where
+  pub by_form : a ≡ true → true ≡ form_border l
   unfolding bytes
-  is_form t = sym (ap (λ (x : Bool). x || (begins devices_word bs || begins main_word bs)) (sym e ∙ t))
+  by_form t = sym (ap (λ (x : Bool). x || (begins devices_word l || begins main_word l)) (sym (begins_word form_word l) ∙ sym form ∙ t))
 
-  module _ (t : r ≡ false) {d : Bool} (g : d ≡ begins devices_word bs) where
-    -- no `form` line
-    other_word : (begins devices_word bs || begins main_word bs) ≡ form_border bs
+  module _ (t : a ≡ false) {b : Bool} (devices : b ≡ starts_with eqb l devices_word) where
+    others : (begins devices_word l || begins main_word l) ≡ form_border l
     unfolding bytes
-    other_word = sym (ap (λ (x : Bool). x || (begins devices_word bs || begins main_word bs)) (sym e ∙ t))
+    others = sym (ap (λ (x : Bool). x || (begins devices_word l || begins main_word l)) (sym (begins_word form_word l) ∙ sym form ∙ t))
 
-    pub is_devices : d ≡ true → true ≡ form_border bs
-    is_devices u = sym (ap (λ (x : Bool). x || begins main_word bs) (sym g ∙ u)) ∙ other_word
+    pub by_devices : b ≡ true → true ≡ form_border l
+    by_devices u = sym (ap (λ (x : Bool). x || begins main_word l) (sym (begins_word devices_word l) ∙ sym devices ∙ u)) ∙ others
 
-    pub is_main : d ≡ false → {q : Bool} → q ≡ begins main_word bs → q ≡ form_border bs
-    is_main u m = m ∙ sym (ap (λ (x : Bool). x || begins main_word bs) (sym g ∙ u)) ∙ other_word
-
--- A WORD, BYTE BY BYTE
-
--- what is left to compare from byte i on
-abbrev pub begins_from : List ℕ → List ℕ → ℕ → Bool
-begins_from w bs i = begins (drop i w) (drop i bs)
-
-module _ (w bs : List ℕ) (i : ℕ) where
-  pub begins_whole : length w ≤ i → begins_from w bs i ≡ true
-  unfolding begins
-  begins_whole h = ap (λ (v : List ℕ). begins v (drop i bs)) (drop_of_length-le w h)
-
-  module _ (h : i < length w) where
-    pub begins_short : length bs ≤ i → begins_from w bs i ≡ false
-    unfolding begins
-    begins_short g = λ j. begins (drop-cons w i 0 h j) (drop_of_length-le bs g j)
-
-    module _ (g : i < length bs) where
-      begins_byte : begins_from w bs i ≡ (eqb (get_or w i 0) (get_or bs i 0) && begins_from w bs (i + 1))
-      unfolding begins
-      begins_byte =
-          (λ j. begins (drop-cons w i 0 h j) (drop-cons bs i 0 g j))
-          ∙ ap (λ (k : ℕ). eqb (get_or w i 0) (get_or bs i 0) && begins_from w bs k) (let z : suc i ≡ i + 1 = omega arith in z)
-
-      pub begins_other : (get_or bs i 0 ≡ get_or w i 0 → ⊥) → begins_from w bs i ≡ false
-      begins_other ne = begins_byte ∙ ap (λ (x : Bool). x && begins_from w bs (i + 1)) (ne_eqb (get_or w i 0) (get_or bs i 0) (λ e. ne (sym e)))
-
-      pub begins_same : get_or bs i 0 ≡ get_or w i 0 → begins_from w bs i ≡ begins_from w bs (i + 1)
-      begins_same e = begins_byte ∙ ap (λ (x : Bool). x && begins_from w bs (i + 1)) (eq-eqb (get_or w i 0) (get_or bs i 0) (sym e))
-
--- A LINE'S END, BYTE BY BYTE
-
-module _ (text : List ℕ) (at : ℕ) where
-  pub line_none : length text ≤ at → at + line_length (drop at text) ≡ at
-  unfolding text_lines
-  line_none h = ap (λ (bs : List ℕ). at + line_length bs) (drop_of_length-le text h) ∙ (let z : at + 0 ≡ at = omega arith in z)
-
-  module _ (h : at < length text) where
-    pub line_ends : get_or text at 0 ≡ 10 → at + line_length (drop at text) ≡ at + 1
-    line_ends e =
-        ap (λ (bs : List ℕ). at + line_length bs) (drop-cons text at 0 h)
-        ∙ ap (λ (l : List ℕ). at + length l) (first_ends (get_or text at 0) (drop (suc at) text) (eq-eqb (get_or text at 0) newline e))
-
-    pub line_more : (get_or text at 0 ≡ 10 → ⊥) → at + line_length (drop at text) ≡ (at + 1) + line_length (drop (at + 1) text)
-    line_more ne =
-        ap (λ (bs : List ℕ). at + line_length bs) (drop-cons text at 0 h)
-        ∙ ap (λ (l : List ℕ). at + length l) (first_more (get_or text at 0) (drop (suc at) text) (ne_eqb (get_or text at 0) newline ne))
-        ∙ (let z : at + suc (line_length (drop (suc at) text)) ≡ (at + 1) + line_length (drop (suc at) text) = omega arith in z)
-        ∙ ap (λ (n : ℕ). (at + 1) + line_length (drop n text)) (let z : suc at ≡ at + 1 = omega arith in z)
-
-    -- it ends after its place, and within the text
-    pub line_after : at < at + line_length (drop at text)
-    line_after = omega (arith, ap line_length (drop-cons text at 0 h), first_some (get_or text at 0) (drop (suc at) text))
-
-    pub line_within : at + line_length (drop at text) ≤ length text
-    line_within = omega (arith, first_within (drop at text), length-drop at text)
+    pub by_main : b ≡ false → {c : Bool} → c ≡ starts_with eqb l main_word → c ≡ form_border l
+    by_main u main = main ∙ begins_word main_word l ∙ sym (ap (λ (x : Bool). x || begins main_word l) (sym (begins_word devices_word l) ∙ sym devices ∙ u)) ∙ others
 
 -- THE PLACE OF A BORDER, LINE BY LINE
 
@@ -205,28 +140,58 @@ module _ (text : List ℕ) (at : ℕ) where
         ∙ ap (λ (k : ℕ). at + k) (length-append (first_line (drop at text)) rest)
         ∙ (let z : at + (line_length (drop at text) + length rest) ≡ (at + line_length (drop at text)) + length rest = omega arith in z)
 
-    -- what is told of the bytes from here on
-    module _ {b : Bool} (told : b ≡ form_border (take (length text - at) (drop at text))) where
+    pub border_other : form_border (first_line (drop at text)) ≡ false → (n : ℕ) → border_place text at n ≡ border_place text next n
+    border_other e n = passed n n (nth_other form_border n (text_lines (drop next text)) e)
+
+    module _ (e : form_border (first_line (drop at text)) ≡ true) where
+      pub border_here : (n : ℕ) → n ≡ 0 → border_place text at n ≡ at
+      unfolding border_place flatten
+      border_here n z =
+          ap (border_place text at) z
+          ∙ ap (λ (ls : List (List ℕ)). at + length (flatten ls))
+          (ap (before_nth form_border 0) lines_at ∙ nth_here form_border (text_lines (drop next text)) e)
+          ∙ (let q : at + 0 ≡ at = omega arith in q)
+
+      pub border_later : (n : ℕ) → (n ≡ 0 → ⊥) → border_place text at n ≡ border_place text next (n - 1)
+      border_later zero ne = absurd (ne refl)
+      border_later (suc n) ne =
+          passed (suc n) n (nth_later form_border n (text_lines (drop next text)) e)
+          ∙ ap (border_place text next) (let z : n ≡ suc n - 1 = omega arith in z)
+
+-- A LINE CUT OFF WHAT IS LEFT OF THE TEXT
+
+-- by a test for its last byte
+module _ {F : Type 0} {g : Mut F (Bor ℕ × Unit {0}) Bool} (tests : (f : F) (a : Bor ℕ × Unit {0}) (r : Bool) (f' : F) → Called g f a r f' → r ≡ eqb a.0.now newline) (text : List ℕ) (at : ℕ) (line rest' : List ℕ) {rest : List ℕ} (left : rest ≡ drop at text) where
+  module _ {f f' : F} (cut : (rest ≡ line ++ rest')
+      × ((i : ℕ) × (length line ≡ min (i + 1) (length rest)) × ((p : ℕ → Bool) → ComputesKey g p f → ComputesKey g p f' × IsFirstMatchOrLen p rest i))
+      × (0 < length rest)) where
+    pub line_here : at < length text
+    line_here = omega (arith, cut.2, ap length left, length-drop at text)
+
+    first_here : line ≡ first_line (drop at text)
+    first_here =
+        line_cut rest line rest' cut.1.0 cut.0 cut.1.1 (cut.1.2 (λ b. eqb b newline) (answers_always g (λ a r. r ≡ eqb a.0.now newline) f tests)).1
+        ∙ ap first_line left
+
+    pub line_left : rest' ≡ drop (at + length line) text
+    line_left =
+        sym (drop-append_seam line rest') ∙ ap (drop (length line)) (sym cut.0 ∙ left) ∙ drop-drop (length line) at text
+
+    pub line_inside : at + length line ≤ length text
+    line_inside = omega (arith, ap length first_here, first_within (drop at text), length-drop at text, line_here)
+
+    next_here : next text at line_here ≡ at + length line
+    next_here = ap (λ (l : List ℕ). at + length l) (sym first_here)
+
+    module _ {b : Bool} (told : b ≡ form_border line) where
       border_told : {x : Bool} → b ≡ x → form_border (first_line (drop at text)) ≡ x
-      border_told e =
-          border_first (drop at text)
-          ∙ ap form_border (sym (take_all (length text - at) (drop at text) (omega (arith, length-drop at text))))
-          ∙ sym told ∙ e
+      border_told e = ap form_border (sym first_here) ∙ sym told ∙ e
 
-      pub border_other : not b ≡ true → (n : ℕ) → border_place text at n ≡ border_place text next n
-      border_other e n = passed n n (nth_other form_border n (text_lines (drop next text)) (border_told (not-true b e)))
+      pub found : b ≡ true → {n : ℕ} → n ≡ 0 → border_place text at n ≡ at
+      found t {n} z = border_here text at line_here (border_told t) n z
 
-      module _ (e : not b ≡ false) where
-        pub border_here : (n : ℕ) → n ≡ 0 → border_place text at n ≡ at
-        unfolding border_place flatten
-        border_here n z =
-            ap (border_place text at) z
-            ∙ ap (λ (ls : List (List ℕ)). at + length (flatten ls))
-            (ap (before_nth form_border 0) lines_at ∙ nth_here form_border (text_lines (drop next text)) (border_told (not-false b e)))
-            ∙ (let q : at + 0 ≡ at = omega arith in q)
+      pub passed_border : b ≡ true → {n : ℕ} → (n ≡ 0 → ⊥) → border_place text at n ≡ border_place text (at + length line) (n - 1)
+      passed_border t {n} z = border_later text at line_here (border_told t) n z ∙ ap (λ (k : ℕ). border_place text k (n - 1)) next_here
 
-        pub border_later : (n : ℕ) → (n ≡ 0 → ⊥) → border_place text at n ≡ border_place text next (n - 1)
-        border_later zero ne = absurd (ne refl)
-        border_later (suc n) ne =
-            passed (suc n) n (nth_later form_border n (text_lines (drop next text)) (border_told (not-false b e)))
-            ∙ ap (border_place text next) (let z : n ≡ suc n - 1 = omega arith in z)
+      pub passed_line : b ≡ false → (n : ℕ) → border_place text at n ≡ border_place text (at + length line) n
+      passed_line t n = border_other text at line_here (border_told t) n ∙ ap (λ (k : ℕ). border_place text k n) next_here

@@ -7,8 +7,8 @@ use lib.ListN.{length, take, drop, length-append, length-drop}
 use lib.Seq.{drop-drop}
 use Rattle.lists.specs.BeforeNth.{before_nth}
 use Rattle.lists.proofs.BeforeNthLaws.{nth_front, nth_from}
-use Rattle.sheet_rules.specs.declared.FormReply.{FormReply}
-use Rattle.sheet_rules.specs.Stretch.{text_lines, form_border, form_lines, form_stretch}
+use Rattle.std.specs.declared.result.Result.TheVariants.{Ok}
+use Rattle.sheet_rules.specs.Stretch.{text_lines, form_border, form_lines, form_stretch, stretch}
 use Rattle.form_scan.specs.Borders.{first_line, line_length, border_place}
 use Rattle.form_scan.proofs.BorderLaws.{lines_on, first_within}
 
@@ -81,9 +81,9 @@ module _ (text : List ℕ) (f : ℕ) where
       (ap (before_nth form_border 1) rest_lines ∙ sym (nth_from form_border f (text_lines text)))
 
   pub stretch_found : {start : ℕ} → start ≡ border_place text 0 f → {end : ℕ} → end ≡ border_place text start 1
-      → FormReply.Lines start (end - start) ≡ form_stretch f (text_lines text)
+      → Ok (stretch start (end - start)) ≡ form_stretch f (text_lines text)
   stretch_found {start} s {end} e =
       let at : start ≡ length (flatten earlier) = s ∙ first_place in
       let past : end ≡ length (flatten earlier) + length (flatten (form_lines f (text_lines text))) = e ∙ ap (λ (n : ℕ). border_place text n 1) at ∙ next_place in
       let long : end - start ≡ length (flatten (form_lines f (text_lines text))) = omega (arith, at, past) in
-      λ i. FormReply.Lines (at i) (long i)
+      λ i. Ok (stretch (at i) (long i))

@@ -12,14 +12,15 @@ use Rattle.sheet_rules.specs.declared.Member.TheVariants.{Method, Field}
 use Rattle.sheet_rules.specs.Sheet.{Instr, Part, body, Sheet, form_at}
 use Rattle.sheet_rules.specs.WellFormed.{PartOf}
 use Rattle.type_rules.specs.SlotRows.{slot_rows}
-use Rattle.type_rules.specs.Typing.{Fault, init_fault, code_faults, typed_instr}
+use Rattle.type_rules.specs.Typing.{Fault, code_faults, typed_instr}
 use Rattle.table.specs.Layout.{slot_row_address}
 use Rattle.table.specs.View.{instr_in, instrs_in, sheet_in}
 use Rattle.table.specs.declared.forms.PartPlace.{PartPlace}
 use Rattle.table.specs.Told.{slot_rows_in, part_told}
 use Rattle.table.proofs.ViewLaws.{Only-refl, Only-trans}
-use Rattle.fit_answer.specs.Told.{answers}
-use Rattle.code_typing.specs.declared.Walked.{Walked}
+use Rattle.std.specs.declared.result.Result.{Result}
+use Rattle.std.specs.declared.result.Result.TheVariants.{Ok}
+use Rattle.sheet_rules.specs.declared.Refusal.{Refusal}
 use Rattle.code_typing.specs.Walk.{walk}
 use Rattle.code_typing.specs.Told.{LinesJudged, CodeJudged, code_faults_in, code_slot_rows}
 use Rattle.code_typing.proofs.WalkLaws.{walk_none, walk_good}
@@ -28,7 +29,7 @@ use Rattle.form_typing.specs.Told.{SlotsFilled, PlaceSmall, an_init, a_body, bod
 
 -- a body's lines and slots, after its first slots were put in place
 pub body_judged : (result start : ℕ) {f argument line : ℕ} {w : List ℕ} {row : ℕ} → row ≡ (form_at (sheet_in w) f).row → {w₁ : List ℕ} {filled : ℕ} → SlotsFilled f argument w w₁ filled
-    → {count count' : ℕ} → count' ≡ count → {w' : List ℕ} {r : Walked}
+    → {count count' : ℕ} → count' ≡ count → {w' : List ℕ} {r : Result ℕ Refusal}
     → CodeJudged (code_faults_in w₁ (some row) (some result) filled start count') (code_slot_rows w₁ (some row) filled start count') (line + 1) w₁ w' r
     → CodeJudged (body_faults w f argument result start count) (body_slot_rows w f argument start count) line w w' r
 body_judged result start {f} {argument} {line} {w} {row} row_is {w₁} {filled} s {count} {count'} ec {w'} k =
@@ -59,29 +60,17 @@ part_by : (w : List ℕ) (f : ℕ) {m m' : Member} {p p' : PartPlace} → m ≡ 
 part_by w f em ep = ap₂ (part_faults_in w f) (sym em) (sym ep)
 
 module _ (f : ℕ) {line : ℕ} {w : List ℕ} {m : Member} {p : PartPlace} where
-  pub part_body : {n a r start count : ℕ} → m ≡ Method n a r → p ≡ PartPlace.Body start count → {w' : List ℕ} {x : Walked}
-      → LinesJudged (body_faults w f a r start count) line w w' x → LinesJudged (part_faults_in w f m p) line w w' x
-  part_body em ep {w'} {x} k = subst (λ (fs : List Fault). LinesJudged fs line w w' x) (part_by w f em ep) k
-
-  pub part_init : {n r k : ℕ} → m ≡ Field n r → p ≡ PartPlace.Init k → {x : Walked}
-      → x ≡ walk line (init_fault (answers w) (form_at (sheet_in w) f) r k ∷ []) → LinesJudged (part_faults_in w f m p) line w w x
-  part_init em ep e =
-      record {
-        told = e ∙ ap (walk line) (part_by w f em ep);
-        only = Only-refl (slot_row_address 0) (slot_row_address 63 + 1) w;
-      }
-
-  none_judged : {m' : Member} {p' : PartPlace} → m ≡ m' → p ≡ p' → part_faults_in w f m' p' ≡ [] → LinesJudged (part_faults_in w f m p) line w w (Walked.On line)
+  none_judged : {m' : Member} {p' : PartPlace} → m ≡ m' → p ≡ p' → part_faults_in w f m' p' ≡ [] → LinesJudged (part_faults_in w f m p) line w w (Ok line)
   none_judged em ep e =
       record {
         told = sym (walk_none line) ∙ ap (walk line) (sym e ∙ part_by w f em ep);
         only = Only-refl (slot_row_address 0) (slot_row_address 63 + 1) w;
       }
 
-  pub part_none_init : {n a r k : ℕ} → m ≡ Method n a r → p ≡ PartPlace.Init k → LinesJudged (part_faults_in w f m p) line w w (Walked.On line)
+  pub part_none_init : {n a r k : ℕ} → m ≡ Method n a r → p ≡ PartPlace.Init k → LinesJudged (part_faults_in w f m p) line w w (Ok line)
   part_none_init em ep = none_judged em ep refl
 
-  pub part_none_body : {n r start count : ℕ} → m ≡ Field n r → p ≡ PartPlace.Body start count → LinesJudged (part_faults_in w f m p) line w w (Walked.On line)
+  pub part_none_body : {n r start count : ℕ} → m ≡ Field n r → p ≡ PartPlace.Body start count → LinesJudged (part_faults_in w f m p) line w w (Ok line)
   part_none_body em ep = none_judged em ep refl
 
 -- what a body's place has, where the place is small

@@ -2,7 +2,7 @@
 use Prim.Native.Nat.{ℕ, suc, ◌+◌, ◌*◌, ◌≤◌, ◌<◌}
 use native.Mathlib.Omega.{arith}
 use native.Mathlib.Numerals.{add-one}
-use mathlib.Core.Path.{◌≡◌, refl, sym, ap, ap₂, ◌∙◌}
+use mathlib.Core.Path.{◌≡◌, refl, sym, ap, ap₂, subst, ◌∙◌}
 use mathlib.Core.List.{List, [], ◌∷◌, ◌++◌}
 use mathlib.Core.Option.{some}
 use lib.ListN.{length, get_or, drop, drop_of_length-le, length-append}
@@ -13,19 +13,20 @@ use Rattle.lists.proofs.TabLaws.{length-tab}
 use Rattle.sheet_rules.specs.declared.FitAnswer.{FitAnswer}
 use Rattle.sheet_rules.specs.declared.Member.{Member}
 use Rattle.sheet_rules.specs.declared.Member.TheVariants.{Method, Field}
-use Rattle.sheet_rules.specs.declared.Reason.{Reason}
 use Rattle.sheet_rules.specs.Sheet.{Instr, Part, init, body, Form, Sheet, no_member, form_at}
 use Rattle.sheet_rules.specs.WellFormed.{PartOf}
 use Rattle.type_rules.specs.SlotRows.{Own, members_at, body_rows, rows_after}
 use Rattle.type_rules.specs.Typing.{Fault, InstrJudge, LineJudge, code_faults, part_faults, parts_faults, typed_lines}
 use Rattle.table.specs.Layout.{slot_row_address}
-use Rattle.table.specs.View.{instr_in, instrs_in, member_in, part_in, sheet_in}
+use Rattle.table.specs.View.{instr_in, instrs_in, part_in, sheet_in}
 use Rattle.table.specs.declared.forms.PartPlace.{PartPlace}
 use Rattle.table.specs.Told.{part_told}
 use Rattle.table.specs.Whole.{Whole}
-use Rattle.table.proofs.ViewLaws.{SameTable, only→same, Only-refl, Only-trans, member_same, part_in_same}
-use Rattle.table.proofs.SheetLaws.{member_there, parts-Pairwise, parts-length, part_there}
-use Rattle.code_typing.specs.declared.Walked.{Walked}
+use Rattle.table.proofs.ViewLaws.{SameTable, only→same, Only-refl, Only-trans, part_in_same}
+use Rattle.table.proofs.SheetLaws.{parts-Pairwise, parts-length, part_there}
+use Rattle.std.specs.declared.result.Result.{Result}
+use Rattle.std.specs.declared.result.Result.TheVariants.{Ok, Err}
+use Rattle.sheet_rules.specs.declared.Refusal.{Refusal}
 use Rattle.code_typing.specs.Walk.{walk, walk_on}
 use Rattle.code_typing.specs.Told.{judge_in, instr_judge_in, OnlySlots, LinesJudged}
 use Rattle.code_typing.proofs.WalkLaws.{walk_none, walk-append, walk-length}
@@ -92,11 +93,22 @@ module _ {f first : ℕ} {w₀ w : List ℕ} {j line : ℕ} (g : PartsGoing f fi
   pub parts_whole : Whole w
   parts_whole = slots_whole g.only h
 
-  module _ {row : ℕ} (row_is : row ≡ form.row) {count : ℕ} (count-is : count ≡ length (members_at (sheet_in w₀) row)) where
-    all_members : count ≡ length members
-    all_members = count-is ∙ ap (λ (a : ℕ). length (members_at (sheet_in w₀) a)) row_is
+  -- row and count are read in the sheet of the buffer at the start
+  module _ {v₀ : List ℕ} (e₀ : v₀ ≡ w₀) {row : ℕ} (row_was : row ≡ (form_at (sheet_in v₀) f).row) {count : ℕ} (count_was : count ≡ length (members_at (sheet_in v₀) row)) where
+    row_is : row ≡ form.row
+    row_is = row_was ∙ ap (λ (x : List ℕ). (form_at (sheet_in x) f).row) e₀
 
-    pub parts_end : count ≤ j → LinesJudged (parts_faults_in w₀ f) first w₀ w (Walked.On line)
+    all_members : count ≡ length members
+    all_members = count_was ∙ (λ i. length (members_at (sheet_in (e₀ i)) (row_is i)))
+
+    -- member j may be read in the sheet of the buffer as it is
+    pub parts_asks : j < count → {v : List ℕ} → v ≡ w → j < length (members_at (sheet_in v) row)
+    parts_asks more e =
+        let same : sheet_in w₀ ≡ sheet_in w = sym (slots_sheet g.only) in
+        let all : count ≡ length (members_at (sheet_in w₀) row) = count_was ∙ ap (λ (x : List ℕ). length (members_at (sheet_in x) row)) e₀ in
+        subst (λ (s : Sheet). j < length (members_at s row)) (same ∙ sym (ap sheet_in e)) (omega (arith, all))
+
+    pub parts_end : count ≤ j → LinesJudged (parts_faults_in w₀ f) first w₀ w (Ok line)
     unfolding parts_faults
     parts_end k =
         let past : length members ≤ j = omega (arith, all_members) in
@@ -105,25 +117,25 @@ module _ {f first : ℕ} {w₀ w : List ℕ} {j line : ℕ} (g : PartsGoing f fi
           only = g.only;
         }
 
-    module _ (l : f < length (sheet_in w₀).forms) (more : j < count) {m : Member} (m-is : m ≡ member_in w row j) (p : PartPlace) (p-is : part_told w p ≡ part_in w f j) where
+    module _ (l : f < length (sheet_in w₀).forms) (more : j < count) {v : List ℕ} (e : v ≡ w) {m : Member} (m-is : m ≡ get_or (members_at (sheet_in v) row) j no_member) (p : PartPlace) (p-is : part_told v p ≡ part_in v f j) where
       in_members : j < length members
       in_members = omega (arith, all_members)
 
       member_is : m ≡ get_or members j no_member
       member_is =
-          m-is ∙ member_same w₀ w row j (λ i lo hi. table_same i (omega arith))
-          ∙ ap (λ (x : ℕ). member_in w₀ x j) row_is ∙ sym (member_there w₀ h form.row j in_members)
+          let same : sheet_in v ≡ sheet_in w₀ = ap sheet_in e ∙ slots_sheet g.only in
+          m-is ∙ (λ i. get_or (members_at (same i) (row_is i)) j no_member)
 
       in_parts : j < length form.parts
       in_parts = omega (arith, in_members, parts-length w₀ h f l)
 
       part_is : part_told w p ≡ get_or form.parts j (init 0)
-      part_is = p-is ∙ part_in_same w₀ w table_same f j ∙ sym (part_there w₀ h f l j in_parts)
+      part_is = subst (λ (x : List ℕ). part_told x p ≡ part_in x f j) e p-is ∙ part_in_same w₀ w table_same f j ∙ sym (part_there w₀ h f l j in_parts)
 
       pub parts_small : PlaceSmall p
       parts_small = place_small w p part_is (Pairwise-at members form.parts j no_member (init 0) (parts-Pairwise w₀ h f l) in_members)
 
-      module _ {w' : List ℕ} {r : Walked} (t : LinesJudged (part_faults_in w f m p) line w w' r) where
+      module _ {w' : List ℕ} {r : Result ℕ Refusal} (t : LinesJudged (part_faults_in w f m p) line w w' r) where
         faults_of : (ℕ → ℕ → FitAnswer) → Sheet → Member → Part → List Fault
         faults_of fit s x y = part_faults (typed_lines fit s) s f (form_at s f) x y
 
@@ -137,7 +149,7 @@ module _ {f first : ℕ} {w₀ w : List ℕ} {j line : ℕ} (g : PartsGoing f fi
         step : walk_on r (λ n. walk n rest) ≡ walk first (parts_faults_in w₀ f)
         unfolding parts_faults
         step =
-            ap (λ (x : Walked). walk_on x (λ n. walk n rest)) (t.told ∙ ap (walk line) here)
+            ap (λ (x : Result ℕ Refusal). walk_on x (λ n. walk n rest)) (t.told ∙ ap (walk line) here)
             ∙ sym (walk-append line (part_faults (judge_in w₀) (sheet_in w₀) f form (get_or members j no_member) (get_or form.parts j (init 0))) rest)
             ∙ sym (ap₂ (λ (ms : List Member) (ps : List Part). walk line (faults ms ps)) (drop-cons members j no_member in_members) (drop-cons form.parts j (init 0) in_parts))
             ∙ g.same
@@ -145,10 +157,10 @@ module _ {f first : ℕ} {w₀ w : List ℕ} {j line : ℕ} (g : PartsGoing f fi
         only' : OnlySlots w₀ w'
         only' = Only-trans g.only t.only
 
-        pub parts_stop : {q : Reason} {n : ℕ} → r ≡ Walked.Stopped q n → LinesJudged (parts_faults_in w₀ f) first w₀ w' r
-        parts_stop e = record { told = e ∙ ap (λ (x : Walked). walk_on x (λ n. walk n rest)) (sym e) ∙ step; only = only' }
+        pub parts_stop : {q : Refusal} → r ≡ Err q → LinesJudged (parts_faults_in w₀ f) first w₀ w' (Err q)
+        parts_stop e = record { told = ap (λ (x : Result ℕ Refusal). walk_on x (λ n. walk n rest)) (sym e) ∙ step; only = only' }
 
-        pub parts_next : {n : ℕ} → r ≡ Walked.On n → PartsGoing f first w₀ w' (j + 1) n
+        pub parts_next : {n : ℕ} → r ≡ Ok n → PartsGoing f first w₀ w' (j + 1) n
         parts_next {n} e =
             record {
               within = omega (arith, in_members);
@@ -160,5 +172,5 @@ module _ {f first : ℕ} {w₀ w : List ℕ} {j line : ℕ} (g : PartsGoing f fi
                   omega arith);
               same =
                   ap (λ (i : ℕ). walk n (faults (drop i members) (drop i form.parts))) (add-one j)
-                  ∙ ap (λ (x : Walked). walk_on x (λ n. walk n rest)) (sym e) ∙ step;
+                  ∙ ap (λ (x : Result ℕ Refusal). walk_on x (λ n. walk n rest)) (sym e) ∙ step;
             }

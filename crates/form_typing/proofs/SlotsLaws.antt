@@ -25,9 +25,9 @@ slot_only w v r = Only-set (slot_row_address 0) (slot_row_address 63 + 1) w (slo
 pub keeps_start : {f : ℕ} {w₀ : List ℕ} → KeepsPut f 0 w₀ w₀
 keeps_start {w₀ = w₀} = record { kept = λ i h. absurd (omega arith); first = λ i h. refl; only = Only-refl (slot_row_address 0) (slot_row_address 63 + 1) w₀ }
 
-pub keeps_next : {f : ℕ} {w₀ w : List ℕ} {k : ℕ} → KeepsPut f k w₀ w → k < 8 → work_size ≤ length w₀ → {r : ℕ} → r ≡ get_or (form_at (sheet_in w) f).keeps k 0
+pub keeps_next : {f : ℕ} {w₀ w : List ℕ} {k : ℕ} → KeepsPut f k w₀ w → k < 8 → work_size ≤ length w₀ → {v : List ℕ} → v ≡ w → {r : ℕ} → r ≡ get_or (form_at (sheet_in v) f).keeps k 0
     → {w' : List ℕ} → w' ≡ set w (slot_row_address (2 + k)) r → KeepsPut f (k + 1) w₀ w'
-keeps_next {f} {w₀} {w} {k} g few size {r} e {w'} s =
+keeps_next {f} {w₀} {w} {k} g few size {v} same {r} e {w'} s =
     record {
       kept = kept;
       first = λ i h. ap (λ (x : List ℕ). cell x (slot_row_address i)) s ∙ get_or-set_other w (slot_row_address (2 + k)) (slot_row_address i) r 0 (λ c. omega arith) ∙ g.first i h;
@@ -45,11 +45,11 @@ keeps_next {f} {w₀} {w} {k} g few size {r} e {w'} s =
             let q : k ≡ i = omega arith in
             subst (λ (j : ℕ). cell w' (slot_row_address (2 + j)) ≡ get_or (form_at (sheet_in w₀) f).keeps j 0) q
             (ap (λ (x : List ℕ). cell x (slot_row_address (2 + k))) s ∙ get_or-set_same w (slot_row_address (2 + k)) r 0 (omega (arith, g.only.size))
-            ∙ e ∙ ap (λ (x : Sheet). get_or (form_at x f).keeps k 0) (slots_sheet g.only))
+            ∙ e ∙ ap (λ (x : Sheet). get_or (form_at x f).keeps k 0) (ap sheet_in same ∙ slots_sheet g.only))
 
 -- all first slots
-module _ (f argument : ℕ) (w : List ℕ) (size : work_size ≤ length w) {row count : ℕ} (row_is : row ≡ (form_at (sheet_in w) f).row)
-    (count-is : count ≡ length (form_at (sheet_in w) f).keeps) (few : count ≤ 8) {w₁ : List ℕ} (e₁ : w₁ ≡ set w (slot_row_address 0) row)
+module _ (f argument : ℕ) (w : List ℕ) (size : work_size ≤ length w) {v : List ℕ} (same : v ≡ w) {row count : ℕ} (row_is : row ≡ (form_at (sheet_in v) f).row)
+    (count-is : count ≡ length (form_at (sheet_in v) f).keeps) (few : count ≤ 8) {w₁ : List ℕ} (e₁ : w₁ ≡ set w (slot_row_address 0) row)
     {w₂ : List ℕ} (e₂ : w₂ ≡ set w₁ (slot_row_address 1) argument) where
   only_first : OnlySlots w w₁
   only_first = subst (OnlySlots w) (sym e₁) (slot_only w 0 row)
@@ -60,7 +60,7 @@ module _ (f argument : ℕ) (w : List ℕ) (size : work_size ≤ length w) {row 
   slot_0 : cell w₂ (slot_row_address 0) ≡ (form_at (sheet_in w) f).row
   slot_0 =
       ap (λ (x : List ℕ). cell x (slot_row_address 0)) e₂ ∙ get_or-set_other w₁ (slot_row_address 1) (slot_row_address 0) argument 0 (λ c. omega arith)
-      ∙ ap (λ (x : List ℕ). cell x (slot_row_address 0)) e₁ ∙ get_or-set_same w (slot_row_address 0) row 0 (omega arith) ∙ row_is
+      ∙ ap (λ (x : List ℕ). cell x (slot_row_address 0)) e₁ ∙ get_or-set_same w (slot_row_address 0) row 0 (omega arith) ∙ row_is ∙ ap (λ (x : List ℕ). (form_at (sheet_in x) f).row) same
 
   slot_1 : cell w₂ (slot_row_address 1) ≡ argument
   slot_1 = ap (λ (x : List ℕ). cell x (slot_row_address 1)) e₂ ∙ get_or-set_same w₁ (slot_row_address 1) argument 0 (omega (arith, only_first.size))
@@ -76,7 +76,7 @@ module _ (f argument : ℕ) (w : List ℕ) (size : work_size ≤ length w) {row 
       }
     where
       lengths : length (slot_rows_in w' (2 + count)) ≡ length (body_rows (form_at (sheet_in w) f) argument)
-      lengths = length-tab (λ v. cell w' (slot_row_address v)) (2 + count) ∙ omega (arith, count-is)
+      lengths = length-tab (λ v. cell w' (slot_row_address v)) (2 + count) ∙ omega (arith, count-is, ap (λ (x : List ℕ). length (form_at (sheet_in x) f).keeps) same)
 
       each : (i : ℕ) → i < 2 + count → cell w' (slot_row_address i) ≡ get_or (body_rows (form_at (sheet_in w) f) argument) i 0
       each zero h = k.first 0 (omega arith) ∙ slot_0

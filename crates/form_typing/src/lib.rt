@@ -12,22 +12,19 @@ ghost use Rattle.code_typing.specs.Walk.{line_limit, walk};
 ghost use Rattle.code_typing.specs.Told.{LinesJudged, CodeJudged};
 ghost use Rattle.form_typing.specs.Told.{KeepsPut, SlotsFilled, PlaceSmall, body_faults, body_slot_rows, part_faults_in, parts_faults_in, keep_faults_in, form_faults_in};
 
-use code_typing::Walked;
-use instr_typing::{FoundRow, InstrJudged};
-use sheet_rules::{Kind, Member, Reason};
+use sheet_rules::{Kind, Member, Reason, Refusal};
 use table::forms::PartPlace;
 use table::rows::wide;
+use table::sheet::Sheet;
 
 // The kept rows of form f, as the rows of the slots after the first two.
 fn put_keeps(work: &mut [u16], f: usize, count: usize)
     requires { Whole work.old × (count ≤ 8) }
     ensures { KeepsPut f count work.old work.new }
 {
-    let mut k = 0;
-    while k < count {
-        let row = table::forms::keep(work, f, k);
+    for k in 0..count {
+        let row = Sheet::of(work).keep(f, k);
         table::instrs::put_slot_row(work, 2 + k, row);
-        k = k + 1;
     }
 }
 
@@ -36,8 +33,9 @@ fn put_slots(work: &mut [u16], f: usize, argument: u16) -> usize
     requires { Whole work.old }
     ensures { SlotsFilled f argument work.old work.new result }
 {
-    let row = table::forms::form_row(work, f);
-    let count = table::forms::keep_count(work, f);
+    let sheet = Sheet::of(work);
+    let row = sheet.form_row(f);
+    let count = sheet.keep_count(f);
     table::instrs::put_slot_row(work, 0, row);
     table::instrs::put_slot_row(work, 1, argument);
     put_keeps(work, f, count);
@@ -53,16 +51,16 @@ fn judge_body(
     start: u16,
     count: u16,
     line: u32,
-) -> Walked
+) -> Result<u32, Refusal>
     requires { Whole work.old × (count ≤ 32) × (line + 33 ≤ line_limit) }
     ensures { CodeJudged (body_faults work.old f argument res start count) (body_slot_rows work.old f argument start count) line work.old work.new result }
 {
-    let own = table::forms::form_row(work, f);
+    let own = Sheet::of(work).form_row(f);
     let filled = put_slots(work, f, argument);
     code_typing::judge_code(
         work,
-        FoundRow::Row { row: own },
-        FoundRow::Row { row: res },
+        Some(own),
+        Some(res),
         filled,
         start,
         wide(count),
@@ -71,161 +69,137 @@ fn judge_body(
 }
 
 // An `init` line of form f: the kept value fits the field's row.
-fn judge_init(work: &[u16], f: usize, kept: u16, row: u16, line: u32) -> Walked
-    requires { Whole work.now × (line < line_limit) }
-    ensures { result ≡ walk line (init_fault (answers work.now) (form_at (sheet_in work.now) f) row kept ∷ []) }
+fn judge_init(sheet: &Sheet<'_>, f: usize, kept: u16, row: u16, line: u32) -> Result<u32, Refusal>
+    requires { line < line_limit }
+    ensures { result ≡ walk line (init_fault (answers sheet.now) (form_at (sheet_in sheet.now) f) row kept ∷ []) }
 {
-    let given = table::forms::keep(work, f, wide(kept));
-    match instr_typing::judge_fit(work, given, row, row) {
-        InstrJudged::Good { .. } => Walked::On { line: line + 1 },
-        InstrJudged::Refused { reason } => Walked::Stopped { reason, line },
+    let given = sheet.keep(f, wide(kept));
+    match instr_typing::judge_fit(sheet, given, row, row) {
+        Ok(_) => Ok(line + 1),
+        Err(reason) => Err(Refusal { reason, line }),
     }
 }
 
 // A part of form f, for a member of its row.
-fn judge_part(work: &mut [u16], f: usize, member: Member, place: PartPlace, line: u32) -> Walked
+#[tactic(auto, using(crate::proofs::PartLaws::part_none_init, crate::proofs::PartLaws::part_none_body))]
+fn judge_part(
+    work: &mut [u16],
+    f: usize,
+    member: Member,
+    place: PartPlace,
+    line: u32,
+) -> Result<u32, Refusal>
     requires { Whole work.old × PlaceSmall place × (line + 33 ≤ line_limit) }
     ensures { LinesJudged (part_faults_in work.old f member place) line work.old work.new result }
 {
-    match member {
-        Member::Method {
-            name: _,
-            argument,
-            result,
-        } => match place {
-            PartPlace::Body { start, count } => {
-                judge_body(work, f, argument, result, start, count, line)
-            }
-            PartPlace::Init { .. } => Walked::On { line },
-        },
-        Member::Field { name: _, row } => match place {
-            PartPlace::Init { kept } => judge_init(work, f, kept, row, line),
-            PartPlace::Body { .. } => Walked::On { line },
-        },
+    match (member, place) {
+        (
+            Member::Method {
+                argument,
+                result,
+                ..
+            },
+            PartPlace::Body { start, count },
+        ) => judge_body(work, f, argument, result, start, count, line),
+        (Member::Field { row, .. }, PartPlace::Init { kept }) => {
+            judge_init(&Sheet::of(work), f, kept, row, line)
+        }
+        _ => Ok(line),
     }
 }
 
 // The parts of form f.
-fn judge_parts(work: &mut [u16], f: usize, first: u32) -> Walked
+fn judge_parts(work: &mut [u16], f: usize, first: u32) -> Result<u32, Refusal>
     requires { Whole work.old × (f < length (sheet_in work.old).forms) × (first + 264 ≤ line_limit) }
     ensures { LinesJudged (parts_faults_in work.old f) first work.old work.new result }
 {
-    let row = wide(table::forms::form_row(work, f));
-    let count = table::rows::members_at(work, row);
-    let mut j = 0;
+    let sheet = Sheet::of(work);
+    let row = wide(sheet.form_row(f));
+    let count = sheet.members_at(row);
     let mut line = first;
-    while j < count {
-        let member = table::rows::member(work, row, j);
-        let place = table::forms::part(work, f, j);
-        let r = judge_part(work, f, member, place, line);
-        let Walked::On { line: n } = r else {
-            return r;
-        };
-        line = n;
-        j = j + 1;
+    for j in 0..count {
+        let sheet = Sheet::of(work);
+        let member = sheet.member(row, j);
+        let place = sheet.part(f, j);
+        line = judge_part(work, f, member, place, line)?;
     }
-    Walked::On { line }
+    Ok(line)
 }
 
 // Row a of the sheet is pure.
-pub fn is_pure(work: &[u16], a: usize) -> bool
-    requires { Whole work.now }
-    ensures { result ≡ is_pure (row_at (sheet_in work.now).rows a).kind }
+pub fn is_pure(sheet: &Sheet<'_>, a: usize) -> bool
+    ensures { result ≡ is_pure (row_at (sheet_in sheet.now).rows a).kind }
 {
-    match table::rows::kind_at(work, a) {
-        Kind::Pure => true,
-        Kind::Resource => false,
-    }
+    sheet.kind_at(a) == Kind::Pure
 }
 
 // A member is a field.
+#[tactic(auto, unfolding(type_rules::specs::Typing::has_field))]
 fn is_field(m: Member) -> bool
     ensures { result ≡ has_field (m ∷ []) }
 {
-    match m {
-        Member::Method { .. } => false,
-        Member::Field { .. } => true,
-    }
+    matches!(m, Member::Field { .. })
 }
 
 // Row a of the sheet has a field.
-fn has_field(work: &[u16], a: usize) -> bool
-    requires { Whole work.now }
-    ensures { result ≡ has_field (members_at (sheet_in work.now) a) }
+fn has_field(sheet: &Sheet<'_>, a: usize) -> bool
+    ensures { result ≡ has_field (members_at (sheet_in sheet.now) a) }
 {
-    let count = table::rows::members_at(work, a);
-    let mut j = 0;
-    while j < count {
-        if is_field(table::rows::member(work, a, j)) {
+    for j in 0..sheet.members_at(a) {
+        if is_field(sheet.member(a, j)) {
             return true;
         }
-        j = j + 1;
     }
     false
 }
 
 // The `form` line of a form of row a: a pure row has no field.
-fn judge_head(work: &[u16], a: usize, line: u32) -> Walked
-    requires { Whole work.now × (line < line_limit) }
-    ensures { result ≡ walk line (form_fault (row_at (sheet_in work.now).rows a) ∷ []) }
+fn judge_head(sheet: &Sheet<'_>, a: usize, line: u32) -> Result<u32, Refusal>
+    requires { line < line_limit }
+    ensures { result ≡ walk line (form_fault (row_at (sheet_in sheet.now).rows a) ∷ []) }
 {
-    if !is_pure(work, a) {
-        return Walked::On { line: line + 1 };
-    }
-    if has_field(work, a) {
-        return Walked::Stopped {
+    if is_pure(sheet, a) && has_field(sheet, a) {
+        return Err(Refusal {
             reason: Reason::ImpureForm,
             line,
-        };
+        });
     }
-    Walked::On { line: line + 1 }
+    Ok(line + 1)
 }
 
 // A form that is pure, or not, may keep row k: a pure one keeps pure rows alone.
-fn may_keep(work: &[u16], pure: bool, k: usize) -> bool
-    requires { Whole work.now }
-    ensures { result ≡ not (pure && not (is_pure (row_at (sheet_in work.now).rows k).kind)) }
+fn may_keep(sheet: &Sheet<'_>, pure: bool, k: usize) -> bool
+    ensures { result ≡ not (pure && not (is_pure (row_at (sheet_in sheet.now).rows k).kind)) }
 {
-    if !pure {
-        return true;
-    }
-    is_pure(work, k)
+    !pure || is_pure(sheet, k)
 }
 
 // The `keep` lines of form f.
-fn judge_keeps(work: &[u16], f: usize, first: u32) -> Walked
-    requires { Whole work.now × (first + 8 ≤ line_limit) }
-    ensures { result ≡ walk first (keep_faults_in work.now f) }
+fn judge_keeps(sheet: &Sheet<'_>, f: usize, first: u32) -> Result<u32, Refusal>
+    requires { first + 8 ≤ line_limit }
+    ensures { result ≡ walk first (keep_faults_in sheet.now f) }
 {
-    let pure = is_pure(work, wide(table::forms::form_row(work, f)));
-    let count = table::forms::keep_count(work, f);
-    let mut j = 0;
-    let mut line = first;
-    while j < count {
-        if !may_keep(work, pure, wide(table::forms::keep(work, f, j))) {
-            return Walked::Stopped {
+    let pure = is_pure(sheet, wide(sheet.form_row(f)));
+    let count = sheet.keep_count(f);
+    for j in 0..count {
+        if !may_keep(sheet, pure, wide(sheet.keep(f, j))) {
+            return Err(Refusal {
                 reason: Reason::ImpureForm,
-                line,
-            };
+                line: first + j as u32,
+            });
         }
-        line = line + 1;
-        j = j + 1;
     }
-    Walked::On { line }
+    Ok(first + count as u32)
 }
 
 // The lines of form f.
-pub fn judge_form(work: &mut [u16], f: usize, line: u32) -> Walked
+pub fn judge_form(work: &mut [u16], f: usize, line: u32) -> Result<u32, Refusal>
     requires { Whole work.old × (f < length (sheet_in work.old).forms) × (line + 273 ≤ line_limit) }
     ensures { LinesJudged (form_faults_in work.old f) line work.old work.new result }
 {
-    let head = judge_head(work, wide(table::forms::form_row(work, f)), line);
-    let Walked::On { line: second } = head else {
-        return head;
-    };
-    let keeps = judge_keeps(work, f, second);
-    let Walked::On { line: third } = keeps else {
-        return keeps;
-    };
-    judge_parts(work, f, third)
+    let sheet = Sheet::of(work);
+    let row = wide(sheet.form_row(f));
+    let keeps = judge_head(&sheet, row, line)?;
+    let parts = judge_keeps(&sheet, f, keeps)?;
+    judge_parts(work, f, parts)
 }

@@ -1,65 +1,37 @@
 -- What an instruction line names is what the rules' instruction names. Assumes nothing.
-use Prim.Native.Nat.{ℕ, zero, suc, ◌≤◌, ◌<◌}
-use native.Mathlib.Omega.{arith}
-use mathlib.Core.Path.{◌≡◌, refl, sym, ap, ap₂, ◌∙◌, subst}
-use mathlib.Core.Bool.{Bool, true, false, ◌&&◌}
-use mathlib.Core.List.{[], ◌∷◌}
-use lib.Dec.{leb, ltb, lit≤}
-use lib.ListN.{take, drop}
-use borrow.Author.Tests.{le-leb, lt-leb}
+use Prim.Native.Nat.{ℕ, ◌<◌}
+use mathlib.Core.Path.{◌≡◌, refl, sym, ap, ap₂, ◌∙◌}
+use mathlib.Core.Bool.{Bool, true, ◌&&◌}
+use mathlib.Core.List.{List, []}
+use Rattle.std.proofs.Math.Bool.{and-true}
+use Rattle.std.specs.Prelude.{All, IsTrue, ◌↔◌}
+use Rattle.std.proofs.lemmas.Bool.Decides.{same_from_decides, Decides-by_and, Decides-ltb}
+use lib.Dec.{T, leb, ltb, lit≤}
+use lib.ListN.{drop}
 use Rattle.sheet_rules.specs.declared.Operation.{Operation}
 use Rattle.sheet_rules.specs.declared.Operation.TheVariants.{New, Call, Get, Put, Copy}
 use Rattle.sheet_rules.specs.declared.Place.{Place}
-use Rattle.sheet_rules.specs.declared.Place.TheVariants.{Instruction}
+use Rattle.sheet_rules.specs.declared.Place.TheVariants.{Types, Row, Member, Forms, Form, Keep, Init, Body, Devices, Device, Main, Instruction, Nowhere}
 use Rattle.sheet_rules.specs.declared.Reason.TheVariants.{Malformed, OutOfLimit, NotDefined}
+use Rattle.sheet_rules.specs.Limits.{name_limit}
 use Rattle.sheet_rules.specs.Keys.{same_place, operation_of}
-use Rattle.sheet_rules.specs.Reader.{good, bad, demand, nth}
+use Rattle.sheet_rules.specs.Reader.{good, demand, nth}
 use Rattle.sheet_rules.specs.FormLines.{instr_of, name_allowed, all_below, names_exist, instr_line}
-use Rattle.lexer.specs.declared.Numbers.{Numbers}
-use Rattle.lexer.specs.Scan.{list_of, Fitting}
-use Rattle.line_judges.proofs.JudgeLaws.{stands_place, number_first, number_second, number_third, demand_no, demand_yes}
-use Rattle.instr_judge.specs.Named.{name_in, slot_ok, exist_in}
+use Rattle.lexer.specs.declared.numbers.Numbers.{Numbers}
+use Rattle.lexer.specs.Told.{list_of, Fitting}
+use Rattle.line_judges.proofs.JudgeLaws.{stands_place, number_first, number_second, number_third, demand_place}
+use Rattle.instr_judge.specs.Named.{name_in, exist_in}
 
--- the slots of a `new` line
+-- every number is below a bound, as a test
+pub below_all : (n : ℕ) (xs : List ℕ) (r : Bool) → IsTrue r ↔ All (λ x. x < n) xs → r ≡ all_below n xs
+unfolding all_below
+below_all n xs r h =
+    same_from_decides r (all_below n xs) h
+    (Decides-by_and (λ x. ltb x n) (λ x. x < n) (all_below n) (λ x. Decides-ltb x n) refl (λ _ _. refl) xs)
 
-pub and-true : (a : Bool) → a && true ≡ a
-and-true true = refl
-and-true false = refl
-
--- a conjunction, test by test
-pub holds_and : {a b x : Bool} → a ≡ true → b ≡ x → a && b ≡ x
-holds_and {a} {b} p q = ap (λ (c : Bool). c && b) p ∙ q
-
-pub fails_and : {a : Bool} (b : Bool) → a ≡ false → a && b ≡ false
-fails_and b p = ap (λ (c : Bool). c && b) p
-
-slots_listed' : (k a b c d e f g h i bound : ℕ) → k ≤ 9
-    → all_below bound (drop 1 (take k (a ∷ b ∷ c ∷ d ∷ e ∷ f ∷ g ∷ h ∷ i ∷ [])))
-    ≡ slot_ok bound k 1 b && (slot_ok bound k 2 c && (slot_ok bound k 3 d && (slot_ok bound k 4 e && (slot_ok bound k 5 f && (slot_ok bound k 6 g && (slot_ok bound k 7 h && (slot_ok bound k 8 i && true)))))))
-unfolding all_below slot_ok
-slots_listed' zero a b c d e f g h i bound m = refl
-slots_listed' (suc zero) a b c d e f g h i bound m = refl
-slots_listed' (suc (suc zero)) a b c d e f g h i bound m = refl
-slots_listed' (suc (suc (suc zero))) a b c d e f g h i bound m = refl
-slots_listed' (suc (suc (suc (suc zero)))) a b c d e f g h i bound m = refl
-slots_listed' (suc (suc (suc (suc (suc zero))))) a b c d e f g h i bound m = refl
-slots_listed' (suc (suc (suc (suc (suc (suc zero)))))) a b c d e f g h i bound m = refl
-slots_listed' (suc (suc (suc (suc (suc (suc (suc zero))))))) a b c d e f g h i bound m = refl
-slots_listed' (suc (suc (suc (suc (suc (suc (suc (suc zero)))))))) a b c d e f g h i bound m = refl
-slots_listed' (suc (suc (suc (suc (suc (suc (suc (suc (suc zero))))))))) a b c d e f g h i bound m = refl
-slots_listed' (suc (suc (suc (suc (suc (suc (suc (suc (suc (suc k)))))))))) a b c d e f g h i bound m = absurd (omega arith)
-
-pub slots_listed : (ns : Numbers) (bound : ℕ) → ns.count ≤ 9
-    → all_below bound (drop 1 (list_of ns))
-    ≡ slot_ok bound ns.count 1 ns.n1
-    && (slot_ok bound ns.count 2 ns.n2
-    && (slot_ok bound ns.count 3 ns.n3
-    && (slot_ok bound ns.count 4 ns.n4
-    && (slot_ok bound ns.count 5 ns.n5
-    && (slot_ok bound ns.count 6 ns.n6 && (slot_ok bound ns.count 7 ns.n7 && (slot_ok bound ns.count 8 ns.n8 && true)))))))
-unfolding list_of
-slots_listed ns bound m =
-    slots_listed' ns.count ns.n0 ns.n1 ns.n2 ns.n3 ns.n4 ns.n5 ns.n6 ns.n7 ns.n8 bound m
+pub none_below : (n : ℕ) (xs : List ℕ) → xs ≡ [] → true ≡ all_below n (drop 1 xs)
+unfolding all_below
+none_below n xs e = sym (ap (λ (ys : List ℕ). all_below n (drop 1 ys)) e)
 
 module _ (ns : Numbers) where
   -- the name
@@ -83,32 +55,31 @@ module _ (ns : Numbers) where
     referred Put h = and-true _ ∙ ap (λ (n : ℕ). ltb n filled) (number_second (Instruction Put) ns h (lit≤ tt))
     referred Copy h = and-true _ ∙ ap (λ (n : ℕ). ltb n filled) (number_first (Instruction Copy) ns h)
 
-    -- a law for each exit of the judge
-    module _ (k : Place) (h : Fitting k ns) where
-      pub instr_malformed : same_place k (Instruction New) ≡ false → bad Malformed ≡ instr_line forms filled k (list_of ns)
-      unfolding instr_line
-      instr_malformed e = sym (demand_no _ _ _ (stands_place (Instruction New) k ns h ∙ e))
-
-      module _ (o : Operation) (e : k ≡ Instruction o) where
-        fits : Fitting (Instruction o) ns
-        fits = subst (λ (x : Place). Fitting x ns) e h
-
-        -- the rule's line, by its operation
-        instr_line_lem : instr_line forms filled k (list_of ns)
-            ≡ demand (leb (name_in o ns) 63) OutOfLimit (demand (exist_in forms filled o ns) NotDefined (good (instr_of o (list_of ns))))
-        unfolding instr_line
-        instr_line_lem =
-            ap (λ (x : Place). instr_line forms filled x (list_of ns)) e
-            ∙ demand_yes _ _ _ (stands_place (Instruction New) (Instruction o) ns fits)
-            ∙ ap₂ (λ (a b : Bool). demand a OutOfLimit (demand b NotDefined (good (instr_of o (list_of ns))))) (named o fits) (referred o fits)
-
-        pub instr_name : 63 < name_in o ns → bad OutOfLimit ≡ instr_line forms filled k (list_of ns)
-        instr_name f = sym (instr_line_lem ∙ demand_no _ _ _ (lt-leb (name_in o ns) 63 f))
-
-        pub instr_not : name_in o ns ≤ 63 → exist_in forms filled o ns ≡ false → bad NotDefined ≡ instr_line forms filled k (list_of ns)
-        instr_not f g = sym (instr_line_lem ∙ demand_yes _ _ _ (le-leb (name_in o ns) 63 f) ∙ demand_no _ _ _ g)
-
-        pub instr_good : name_in o ns ≤ 63 → exist_in forms filled o ns ≡ true → good (instr_of (operation_of k) (list_of ns)) ≡ instr_line forms filled k (list_of ns)
-        instr_good f g =
-            ap (λ (x : Place). good (instr_of (operation_of x) (list_of ns))) e
-            ∙ sym (instr_line_lem ∙ demand_yes _ _ _ (le-leb (name_in o ns) 63 f) ∙ demand_yes _ _ _ g)
+    -- what the judge asks, test by test
+    pub instr_asks : (k : Place) → Fitting k ns → instr_line forms filled k (list_of ns)
+        ≡ demand (same_place k (Instruction New)) Malformed
+        (demand (leb (name_in (operation_of k) ns) name_limit) OutOfLimit
+        (demand (exist_in forms filled (operation_of k) ns) NotDefined (good (instr_of (operation_of k) (list_of ns)))))
+    unfolding instr_line
+    instr_asks k h =
+        rw (stands_place (Instruction New) k ns h)
+        (demand_place (same_place k (Instruction New)) Malformed (λ t. at_place k h t))
+      where
+        at_place : (k : Place) → Fitting k ns → T (same_place k (Instruction New))
+            → demand (name_allowed (instr_of (operation_of k) (list_of ns))) OutOfLimit
+            (demand (names_exist forms filled (instr_of (operation_of k) (list_of ns))) NotDefined (good (instr_of (operation_of k) (list_of ns))))
+            ≡ demand (leb (name_in (operation_of k) ns) name_limit) OutOfLimit
+            (demand (exist_in forms filled (operation_of k) ns) NotDefined (good (instr_of (operation_of k) (list_of ns))))
+        at_place (Instruction o) f t = rw (named o f, referred o f) refl
+        at_place Types f t = absurd t
+        at_place Row f t = absurd t
+        at_place (Member kind) f t = absurd t
+        at_place Forms f t = absurd t
+        at_place Form f t = absurd t
+        at_place Keep f t = absurd t
+        at_place Init f t = absurd t
+        at_place Body f t = absurd t
+        at_place Devices f t = absurd t
+        at_place Device f t = absurd t
+        at_place Main f t = absurd t
+        at_place Nowhere f t = absurd t

@@ -1,136 +1,86 @@
 // The judgement of an instruction line: its place, its name, and what it refers to.
 #![tactic(auto)]
 
-ghost use Rattle.std.specs.Prelude.{◌≡◌, ◌≤◌, drop};
-ghost use Rattle.sheet_rules.specs.declared.Operation.{Operation as OperationRule};
+ghost use Rattle.std.specs.Prelude.{◌≡◌, ◌<◌, ◌↔◌, leb, drop, All, IsTrue};
+ghost use Rattle.sheet_rules.specs.Limits.{name_limit};
 ghost use Rattle.sheet_rules.specs.Keys.{operation_of};
 ghost use Rattle.sheet_rules.specs.Reader.{good};
 ghost use Rattle.sheet_rules.specs.FormLines.{all_below, instr_of, instr_line};
-ghost use Rattle.lexer.specs.Scan.{list_of, Fitting};
+ghost use Rattle.lexer.specs.Told.{list_of, Fitting};
 ghost use Rattle.line_judges.specs.Told.{line_told};
-ghost use Rattle.instr_judge.specs.Named.{name_in, slot_ok, exist_in};
+ghost use Rattle.instr_judge.specs.Named.{name_in, exist_in};
 
-use lexer::Numbers;
-use line_judges::LineJudged;
+use lexer::numbers::Numbers;
+use line_judges::{NAME_LIMIT, demand, same_place};
 use sheet_rules::{Operation, Place, Reason};
 
 // What a key of an instruction's place does.
 pub fn operation_of(place: Place) -> Operation
     ensures { result ≡ operation_of place }
 {
-    let Place::Instruction { operation } = place else {
-        return Operation::Copy;
-    };
-    operation
+    match place {
+        Place::Instruction { operation } => operation,
+        _ => Operation::Copy,
+    }
 }
 
-// The name that an instruction has; 0 stands in where it has none.
-fn name_in(operation: Operation, numbers: Numbers) -> u16
-    ensures { result ≡ name_in operation numbers }
+// The name that an instruction has is within its limit.
+#[tactic(auto, unfolding(crate::specs::Named::name_in))]
+fn name_allowed(operation: Operation, numbers: Numbers) -> bool
+    ensures { result ≡ leb (name_in operation numbers) name_limit }
 {
     match operation {
-        Operation::New => 0,
-        Operation::Call => numbers.n1,
-        Operation::Get => numbers.n0,
-        Operation::Put => numbers.n0,
-        Operation::Copy => 0,
+        Operation::Call => numbers.values[1] <= NAME_LIMIT,
+        Operation::Get | Operation::Put => numbers.values[0] <= NAME_LIMIT,
+        Operation::New | Operation::Copy => true,
     }
 }
 
-// Number i is not there, or names a filled slot.
-fn slot_ok(count: u16, i: u16, n: u16, filled: u16) -> bool
-    ensures { result ≡ slot_ok filled count i n }
+// Every number is below the bound.
+fn all_below(numbers: &[u16], bound: u16) -> bool
+    ensures { IsTrue result ↔ All (λ n. n < bound) numbers.now }
 {
-    if count <= i {
-        return true;
-    }
-    n < filled
+    numbers.iter().all(|&n| n < bound)
 }
 
 // All numbers after the first name filled slots.
 fn slots_below(filled: u16, numbers: Numbers) -> bool
-    requires { numbers.count ≤ 9 }
     ensures { result ≡ all_below filled (drop 1 (list_of numbers)) }
 {
-    let count = numbers.count;
-    if !slot_ok(count, 1, numbers.n1, filled) {
-        return false;
-    }
-    if !slot_ok(count, 2, numbers.n2, filled) {
-        return false;
-    }
-    if !slot_ok(count, 3, numbers.n3, filled) {
-        return false;
-    }
-    if !slot_ok(count, 4, numbers.n4, filled) {
-        return false;
-    }
-    if !slot_ok(count, 5, numbers.n5, filled) {
-        return false;
-    }
-    if !slot_ok(count, 6, numbers.n6, filled) {
-        return false;
-    }
-    if !slot_ok(count, 7, numbers.n7, filled) {
-        return false;
-    }
-    slot_ok(count, 8, numbers.n8, filled)
-}
-
-// A form and slots that exist.
-fn new_exists(forms: u16, filled: u16, numbers: Numbers) -> bool
-    requires { numbers.count ≤ 9 }
-    ensures { result ≡ exist_in forms filled OperationRule.New numbers }
-{
-    if numbers.n0 < forms {
-        return slots_below(filled, numbers);
-    }
-    false
-}
-
-// A receiver and an argument that exist.
-fn call_exists(forms: u16, filled: u16, numbers: Numbers) -> bool
-    ensures { result ≡ exist_in forms filled OperationRule.Call numbers }
-{
-    if numbers.n0 < filled {
-        return numbers.n2 < filled;
-    }
-    false
+    let [_, slots @ ..] = numbers.as_slice() else {
+        return true;
+    };
+    all_below(slots, filled)
 }
 
 // What the instruction refers to exists: the operation is matched to its operands.
+#[tactic(auto, unfolding(crate::specs::Named::exist_in))]
 fn names_exist(forms: u16, filled: u16, operation: Operation, numbers: Numbers) -> bool
-    requires { numbers.count ≤ 9 }
     ensures { result ≡ exist_in forms filled operation numbers }
 {
+    let [first, second, third, ..] = numbers.values;
     match operation {
-        Operation::New => new_exists(forms, filled, numbers),
-        Operation::Call => call_exists(forms, filled, numbers),
+        Operation::New => first < forms && slots_below(filled, numbers),
+        Operation::Call => first < filled && third < filled,
         Operation::Get => true,
-        Operation::Put => numbers.n1 < filled,
-        Operation::Copy => numbers.n0 < filled,
+        Operation::Put => second < filled,
+        Operation::Copy => first < filled,
     }
 }
 
 // An instruction line, in a sheet of `forms` forms, where `filled` slots are filled.
-pub fn instr_line(forms: u16, filled: u16, place: Place, numbers: Numbers) -> LineJudged
+pub fn instr_line(forms: u16, filled: u16, place: Place, numbers: Numbers) -> Result<(), Reason>
     requires { Fitting place numbers }
     ensures { line_told result (good (instr_of (operation_of place) (list_of numbers))) ≡ instr_line forms filled place (list_of numbers) }
 {
-    let Place::Instruction { operation } = place else {
-        return LineJudged::Refused {
-            reason: Reason::Malformed,
-        };
+    let instruction = Place::Instruction {
+        operation: Operation::New,
     };
-    if 63 < name_in(operation, numbers) {
-        return LineJudged::Refused {
-            reason: Reason::OutOfLimit,
-        };
-    }
-    if !names_exist(forms, filled, operation, numbers) {
-        return LineJudged::Refused {
-            reason: Reason::NotDefined,
-        };
-    }
-    LineJudged::Good
+    demand(same_place(place, instruction), Reason::Malformed)?;
+    let operation = operation_of(place);
+    demand(name_allowed(operation, numbers), Reason::OutOfLimit)?;
+    demand(
+        names_exist(forms, filled, operation, numbers),
+        Reason::NotDefined,
+    )
 }

@@ -10,14 +10,13 @@ use Rattle.sheet_rules.specs.declared.Place.TheVariants.{Types, Row, Member, For
 use Rattle.sheet_rules.specs.Keys.{same_place, operation_of}
 use Rattle.sheet_rules.specs.Sheet.{new, call, get, put, copy}
 use Rattle.sheet_rules.specs.FormLines.{instr_of}
-use Rattle.lexer.specs.declared.Numbers.{Numbers}
-use Rattle.lexer.specs.Scan.{list_of, Fitting}
+use Rattle.lexer.specs.declared.numbers.Numbers.{Numbers}
+use Rattle.lexer.specs.Told.{list_of, Fitting}
 use Rattle.line_judges.proofs.JudgeLaws.{number_first, number_second, number_third}
 use Rattle.table.specs.View.{operation_code, instr_from}
-use Rattle.instr_reader.specs.Reads.{nine_of}
 
 module _ (ns : Numbers) where
-  of_operation : (o : Operation) → Fitting (Instruction o) ns → instr_of o (list_of ns) ≡ instr_from (operation_code o) ns.count (nine_of ns)
+  of_operation : (o : Operation) → Fitting (Instruction o) ns → instr_of o (list_of ns) ≡ instr_from (operation_code o) ns.count ns.values
   unfolding instr_from list_of
   of_operation New h = ap (λ (f : ℕ). new f (drop 1 (list_of ns))) (number_first (Instruction New) ns h)
   of_operation Call h =
@@ -28,7 +27,7 @@ module _ (ns : Numbers) where
   of_operation Copy h = ap copy (number_first (Instruction Copy) ns h)
 
   pub stored_rule : (k : Place) → Fitting k ns → T (same_place k (Instruction New))
-      → instr_from (operation_code (operation_of k)) ns.count (nine_of ns) ≡ instr_of (operation_of k) (list_of ns)
+      → instr_from (operation_code (operation_of k)) ns.count ns.values ≡ instr_of (operation_of k) (list_of ns)
   stored_rule (Instruction operation) h t = sym (of_operation operation h)
   stored_rule Types h t = absurd t
   stored_rule Row h t = absurd t

@@ -12,11 +12,12 @@ use Rattle.table.specs.View.{cell, instr_in, instrs_in}
 use Rattle.table.specs.Only.{Only}
 use Rattle.table.proofs.ViewLaws.{SameFrom, Only-widen, instr_same}
 use Rattle.line_reader.specs.declared.Cursor.{Cursor}
-use Rattle.line_reader.specs.declared.Progress.{Progress}
 use Rattle.line_reader.specs.Told.{read_from, read_told, Advanced}
 use Rattle.reader_loop.specs.Items.{ItemsRead}
 use Rattle.reader_loop.proofs.LoopLaws.{Going, Turn}
 use Rattle.instr_reader.specs.Reads.{InstrRead, instr_items, InstrsRead}
+use Rattle.std.specs.declared.result.Result.{Result}
+use Rattle.sheet_rules.specs.declared.Refusal.{Refusal}
 
 -- a buffer that is changed in one instruction alone has the others as they were
 pub instr_other : (w w' : List ℕ) (p q : ℕ) → Only (instr_address p) (instr_address p + 11) w w' → p < 1024 → q < 1024 → (q ≡ p → ⊥) → instr_in w' q ≡ instr_in w q
@@ -35,32 +36,27 @@ instrs_before w w' start j o h =
     tab_ext (λ k. instr_in w' (start + k)) (λ k. instr_in w (start + k)) j
     (λ k u. instr_other w w' (start + j) (start + k) o h (omega arith) (λ e. omega arith))
 
--- where the loop stands, with the slots that are filled there
-pub record InstrsGoing (text : List ℕ) (forms filled count : ℕ) (from : Cursor) (w₀ w : List ℕ) (j slots : ℕ) (here : Cursor) : Type 0 where
-  pub counted : slots ≡ filled + j
-  pub going : Going text (instr_items forms filled from.used count) count from w₀ w j here
-
-module _ {text : List ℕ} {forms filled count : ℕ} {from : Cursor} {w₀ w : List ℕ} {j slots : ℕ} {here : Cursor} (g : InstrsGoing text forms filled count from w₀ w j slots here) where
-  pub instr_turn : from.used + count ≤ 1024 → j < count → {w' : List ℕ} {r : Progress} → InstrRead text forms slots here w w' r
-      → Turn text (instr_items forms filled from.used count) w j here w' r
-  instr_turn fits l {w'} {r} m =
-      let start : ℕ = from.used in
-      let next : here.used ≡ start + j = g.going.pool in
-      record {
-        read =
-            record {
-              told =
-                  ap (λ (p : ℕ). read_told text r (instr_in w' p)) (sym next) ∙ m.told
-                  ∙ ap (λ (s : ℕ). read_from text here (one (instr_line forms s)))
-                  (g.counted ∙ ap (λ (k : ℕ). filled + k) (sym (length-tab (λ k. instr_in w (start + k)) j)));
-              only = Only-widen (omega (arith, next)) (omega (arith, next)) m.only;
-              advanced = subst (λ (u : ℕ). Advanced text here u r) (omega (arith, next)) m.advanced;
-            };
-        kept = instrs_before w w' start j (subst (λ (p : ℕ). Only (instr_address p) (instr_address p + 11) w w') next m.only) (omega arith);
-      }
+pub instr_turn : (forms filled : ℕ) {text : List ℕ} {count : ℕ} {from : Cursor} {w₀ w : List ℕ} {j slots : ℕ} {here : Cursor} → Going text (instr_items forms filled from.used count) count from w₀ w j here
+    → from.used + count ≤ 1024 → j < count → slots ≡ filled + j → {w' : List ℕ} {r : Result Cursor Refusal} → InstrRead text forms slots here w w' r
+    → Turn text (instr_items forms filled from.used count) w j here w' r
+instr_turn forms filled {text = text} {from = from} {w = w} {j = j} {here = here} g fits l counted {w'} {r} m =
+    let start : ℕ = from.used in
+    let next : here.used ≡ start + j = g.pool in
+    record {
+      read =
+          record {
+            told =
+                ap (λ (p : ℕ). read_told text r (instr_in w' p)) (sym next) ∙ m.told
+                ∙ ap (λ (s : ℕ). read_from text here (one (instr_line forms s)))
+                (counted ∙ ap (λ (k : ℕ). filled + k) (sym (length-tab (λ k. instr_in w (start + k)) j)));
+            only = Only-widen (omega (arith, next)) (omega (arith, next)) m.only;
+            advanced = subst (λ (u : ℕ). Advanced text here u r) (omega (arith, next)) m.advanced;
+          };
+      kept = instrs_before w w' start j (subst (λ (p : ℕ). Only (instr_address p) (instr_address p + 11) w w') next m.only) (omega arith);
+    }
 
 -- the rule's reader of a body is that of many such items
-pub instrs_read : (forms filled count : ℕ) {text : List ℕ} {from : Cursor} {w₀ w : List ℕ} {r : Progress} → ItemsRead text (instr_items forms filled from.used count) count from w₀ w r
+pub instrs_read : (forms filled count : ℕ) {text : List ℕ} {from : Cursor} {w₀ w : List ℕ} {r : Result Cursor Refusal} → ItemsRead text (instr_items forms filled from.used count) count from w₀ w r
     → InstrsRead text count forms filled from w₀ w r
 unfolding read_instrs
 instrs_read forms filled count m = record { told = m.told; only = m.only; advanced = m.advanced }

@@ -1,45 +1,20 @@
 -- Scanning a line's numbers finds the decimals between its commas (sheet_rules, Lines.all_decimals and values). Assumes nothing.
-use Prim.Native.Nat.{ℕ, zero, suc, ◌+◌, ◌*◌, ◌-◌, ◌≤◌, ◌<◌}
+use Prim.Native.Nat.{ℕ, ◌+◌, ◌*◌, ◌-◌, ◌≤◌, ◌<◌}
 use native.Mathlib.Omega.{arith}
 use mathlib.Core.Path.{◌≡◌, refl, sym, ap, ◌∙◌, subst}
 use mathlib.Core.Bool.{Bool, true, not, cond, ◌&&◌}
 use mathlib.Core.List.{List, [], ◌∷◌, ◌++◌, append-nil}
 use lib.Dec.{T, leb, leb→le, le→leb}
-use lib.ListN.{length}
+use lib.ListN.{length, length-append}
 use lib.Seq.{append_snoc}
 use borrow.Author.Tests.{ne_eqb}
 use Rattle.lists.proofs.Tests.{and_left, and_right, and_intro}
+use Rattle.std.specs.declared.option.Option.{Option}
+use Rattle.std.specs.declared.option.Option.TheVariants.{Some, None}
 use Rattle.sheet_rules.specs.Limits.{decimal_limit}
 use Rattle.sheet_rules.specs.Lines.{comma, digit0, digit9, in_front, split_on, all_digits, no_leading_zero, value_from, value_of, is_decimal, all_decimals, values}
 use Rattle.lexer.specs.declared.Part.{Part}
 use Rattle.lexer.specs.declared.Part.TheVariants.{Empty, Zero, Digits}
-use Rattle.lexer.specs.declared.Numbers.{Numbers}
-use Rattle.lexer.specs.declared.NumbersRead.{NumbersRead}
-use Rattle.lexer.specs.Scan.{with_number, list_of}
-
--- one number more is one element more
-
-with_list' : (k a b c d e f g h i v : ℕ) → k ≤ 8
-    → let ns : Numbers = record { count = k; n0 = a; n1 = b; n2 = c; n3 = d; n4 = e; n5 = f; n6 = g; n7 = h; n8 = i } in
-    list_of (with_number ns v) ≡ list_of ns ++ (v ∷ [])
-unfolding list_of with_number
-with_list' zero a b c d e f g h i v m = refl
-with_list' (suc zero) a b c d e f g h i v m = refl
-with_list' (suc (suc zero)) a b c d e f g h i v m = refl
-with_list' (suc (suc (suc zero))) a b c d e f g h i v m = refl
-with_list' (suc (suc (suc (suc zero)))) a b c d e f g h i v m = refl
-with_list' (suc (suc (suc (suc (suc zero))))) a b c d e f g h i v m = refl
-with_list' (suc (suc (suc (suc (suc (suc zero)))))) a b c d e f g h i v m = refl
-with_list' (suc (suc (suc (suc (suc (suc (suc zero))))))) a b c d e f g h i v m = refl
-with_list' (suc (suc (suc (suc (suc (suc (suc (suc zero)))))))) a b c d e f g h i v m = refl
-with_list' (suc (suc (suc (suc (suc (suc (suc (suc (suc k))))))))) a b c d e f g h i v m = absurd (omega arith)
-
-pub with_list : (ns : Numbers) (v : ℕ) → ns.count ≤ 8 → list_of (with_number ns v) ≡ list_of ns ++ (v ∷ [])
-with_list ns v m = with_list' ns.count ns.n0 ns.n1 ns.n2 ns.n3 ns.n4 ns.n5 ns.n6 ns.n7 ns.n8 v m
-
-pub with_count : (ns : Numbers) (v : ℕ) → (with_number ns v).count ≡ ns.count + 1
-unfolding with_number
-with_count ns v = refl
 
 -- digits: of a list with another behind it
 
@@ -148,10 +123,9 @@ too_large q ps h t =
     omega arith
 
 -- the result of scanning numbers whose pieces, with what was written before, are ps, in a line that ends before place j
-pub data Scanned (ns : Numbers) (ps : List (List ℕ)) (j : ℕ) : NumbersRead → Type 0 where
-  found : {ns' : Numbers} {k : ℕ} → T (all_decimals ps) → list_of ns' ≡ list_of ns ++ values ps → k ≡ j → ns'.count ≤ 9
-      → Scanned ns ps j (NumbersRead.Numbers ns' k)
-  lost : (T (all_decimals ps) → 9 < ns.count + length ps) → Scanned ns ps j NumbersRead.Torn
+pub data Scanned (ns : List ℕ) (ps : List (List ℕ)) (j : ℕ) : Option (List ℕ × ℕ) → Type 0 where
+  found : {r : List ℕ × ℕ} → T (all_decimals ps) → r.0 ≡ ns ++ values ps → r.1 ≡ j → Scanned ns ps j (Some r)
+  lost : (T (all_decimals ps) → 9 < length ns + length ps) → Scanned ns ps j None
 
 -- no byte of the list is c
 abbrev pub Lacks : ℕ → List ℕ → Type 0
@@ -167,13 +141,12 @@ unfolding split_on
 split_on_other c b bs ne = ap (λ (x : Bool). cond x ([] ∷ split_on c bs) (in_front b (split_on c bs))) (ne_eqb b c ne)
 
 -- a number that ends at a comma
-pub after_comma : (ns : Numbers) (v : ℕ) (q : List ℕ) (ps : List (List ℕ)) (j : ℕ) (r : NumbersRead) → ns.count ≤ 8 → T (is_decimal q) → value_of q ≡ v
-    → Scanned (with_number ns v) ps j r → Scanned ns (q ∷ ps) j r
+pub after_comma : (ns : List ℕ) (v : ℕ) (q : List ℕ) (ps : List (List ℕ)) (j : ℕ) (r : Option (List ℕ × ℕ)) → T (is_decimal q) → value_of q ≡ v
+    → Scanned (ns ++ (v ∷ [])) ps j r → Scanned ns (q ∷ ps) j r
 unfolding all_decimals values
-after_comma ns v q ps j (NumbersRead.Numbers ns' k) m d e (found t l p c) =
+after_comma ns v q ps j (Some r) d e (found t l p) =
     found (and_intro (is_decimal q) (all_decimals ps) d t)
-    (l ∙ ap (λ (x : List ℕ). x ++ values ps) (with_list ns v m) ∙ append_snoc (list_of ns) v (values ps)
-    ∙ ap (λ (n : ℕ). list_of ns ++ (n ∷ values ps)) (sym e))
-    p c
-after_comma ns v q ps j NumbersRead.Torn m d e (lost f) =
-    lost (λ t. omega (arith, f (and_right (is_decimal q) (all_decimals ps) t), with_count ns v))
+    (l ∙ append_snoc ns v (values ps) ∙ ap (λ (n : ℕ). ns ++ (n ∷ values ps)) (sym e))
+    p
+after_comma ns v q ps j None d e (lost f) =
+    lost (λ t. omega (arith, f (and_right (is_decimal q) (all_decimals ps) t), length-append ns (v ∷ [])))

@@ -1,8 +1,7 @@
 -- A word of letters and its number in base 27: the number tells the word, so that the key of a code is the key of its word; and
 -- a word that no key has. Assumes nothing.
-use Prim.Native.Nat.{ℕ, suc, ◌+◌, ◌*◌, ◌-◌, ◌≤◌, ◌<◌}
+use Prim.Native.Nat.{ℕ, ◌+◌, ◌*◌, ◌-◌, ◌≤◌, ◌<◌}
 use native.Mathlib.Omega.{arith}
-use native.Mathlib.Decide.{dec_le}
 use mathlib.Core.Path.{◌≡◌, refl, sym, ap, ◌∙◌, subst}
 use mathlib.Core.Bool.{Bool, true, false, cond, ◌&&◌}
 use mathlib.Core.List.{List, [], ◌∷◌, reverse, reverse_aux, reverse-reverse}
@@ -113,12 +112,7 @@ letters_reverse_aux (b ∷ w) acc s t =
     (and_intro (is_letter b) (all_letters acc) (and_left (is_letter b) (all_letters w) s) t)
 
 digit_unique : (x y d e : ℕ) → 1 ≤ d → d ≤ 26 → 1 ≤ e → e ≤ 26 → x * 27 + d ≡ y * 27 + e → (x ≡ y) × (d ≡ e)
-digit_unique x y d e d1 d2 e1 e2 p = go (dec_le (suc x) y) (dec_le (suc y) x)
-  where
-    go : Dec (suc x ≤ y) → Dec (suc y ≤ x) → (x ≡ y) × (d ≡ e)
-    go (yes q) r = absurd (omega arith)
-    go (no q) (yes r) = absurd (omega arith)
-    go (no q) (no r) = (omega arith, omega arith)
+digit_unique x y d e d1 d2 e1 e2 p = (omega arith, omega arith)
 
 rev_code_unique : (u w : List ℕ) → T (all_letters u) → T (all_letters w) → rev_code u ≡ rev_code w → u ≡ w
 unfolding rev_code all_letters

@@ -11,11 +11,12 @@ use lib.ListN.{length, length-append}
 use lib.Seq.{append_snoc}
 use borrow.Author.Tests.{le-leb, lt-leb, ltb-true, ltb-false, eqb-true, eqb-false}
 use Rattle.lists.proofs.Tests.{and_left, and_right, and_intro}
+use Rattle.std.specs.declared.option.Option.{Option}
+use Rattle.std.specs.declared.option.Option.TheVariants.{Some, None}
 use Rattle.sheet_rules.specs.declared.Place.{Place}
 use Rattle.sheet_rules.specs.Keys.{count_of, place_of, takes}
 use Rattle.sheet_rules.specs.Lines.{newline, comma, equals, in_front, split_on, all_decimals, values, Line, line, torn, numbered, keyed, line_of}
 use Rattle.sheet_rules.proofs.KeysLaws.{most_nine}
-use Rattle.lexer.specs.declared.KeyRead.{KeyRead}
 use Rattle.lexer.specs.Scan.{code_limit, key_scan, word_code}
 use Rattle.lexer.proofs.DecimalLaws.{glue, glue_step, split_on_other, Lacks}
 use Rattle.lexer.proofs.NumberScan.{split_form}
@@ -168,10 +169,10 @@ code_full (b ∷ w) t h =
     omega (arith, q, subst (λ (m : ℕ). power 6 ≤ power m) z p)
 
 -- the result of scanning a key, after letters w, in a line that goes on with q
-pub data KeyScanned (w q : List ℕ) (i : ℕ) : KeyRead → Type 0 where
-  letters : (u v : List ℕ) {c j : ℕ} → w ++ q ≡ u ++ (equals ∷ v) → T (all_letters u) → c ≡ word_code 0 u
-      → j + length w ≡ i + suc (length u) → KeyScanned w q i (KeyRead.Letters c j)
-  no_key : Hopeless (line_of (w ++ q)) → KeyScanned w q i KeyRead.Torn
+pub data KeyScanned (w q : List ℕ) (i : ℕ) : Option (ℕ × ℕ) → Type 0 where
+  letters : (u v : List ℕ) {r : ℕ × ℕ} → w ++ q ≡ u ++ (equals ∷ v) → T (all_letters u) → r.0 ≡ word_code 0 u
+      → r.1 + length w ≡ i + suc (length u) → KeyScanned w q i (Some r)
+  no_key : Hopeless (line_of (w ++ q)) → KeyScanned w q i None
 
 word_code_snoc : (c : ℕ) (w : List ℕ) (b : ℕ) → word_code c (w ++ (b ∷ [])) ≡ word_code c w * 27 + (b - 96)
 unfolding word_code
@@ -182,11 +183,11 @@ length_snoc : (w : List ℕ) (b : ℕ) → length (w ++ (b ∷ [])) ≡ suc (len
 length_snoc w b = rw length-append (omega arith)
 
 -- a letter more of the key in progress: what is known of the rest carries over
-onward : (w q : List ℕ) (b i : ℕ) (r : KeyRead) → KeyScanned (w ++ (b ∷ [])) q (i + 1) r → KeyScanned w (b ∷ q) i r
-onward w q b i (KeyRead.Letters c j) (letters u v e t p h) =
-    let z : j + length w ≡ i + suc (length u) = omega (arith, length_snoc w b) in
+onward : (w q : List ℕ) (b i : ℕ) (r : Option (ℕ × ℕ)) → KeyScanned (w ++ (b ∷ [])) q (i + 1) r → KeyScanned w (b ∷ q) i r
+onward w q b i (Some r) (letters u v e t p h) =
+    let z : r.1 + length w ≡ i + suc (length u) = omega (arith, length_snoc w b) in
     letters u v (sym (append_snoc w b q) ∙ e) t p z
-onward w q b i KeyRead.Torn (no_key h) = no_key (subst (λ (l : List ℕ). Hopeless (line_of l)) (append_snoc w b q) h)
+onward w q b i None (no_key h) = no_key (subst (λ (l : List ℕ). Hopeless (line_of l)) (append_snoc w b q) h)
 
 -- a line without an equal sign
 no_equals : (w : List ℕ) → T (all_letters w) → Hopeless (line_of (w ++ []))
@@ -203,7 +204,7 @@ key_scanned (b ∷ q) l rest w t h c i e =
     next : c * 27 + (b - 96) ≡ word_code 0 (w ++ (b ∷ []))
     next = ap (λ (n : ℕ). n * 27 + (b - 96)) e ∙ sym (word_code_snoc 0 w b)
 
-    Rest : KeyRead
+    Rest : Option (ℕ × ℕ)
     Rest = key_scan (c * 27 + (b - 96)) (i + 1) (q ++ (newline ∷ rest))
 
     no-letter : (b ≡ equals → ⊥) → (T (is_letter b) → ⊥) → Hopeless (line_of (w ++ (b ∷ q)))
@@ -212,7 +213,7 @@ key_scanned (b ∷ q) l rest w t h c i e =
 
     go : (T (is_letter b) → length (w ++ (b ∷ [])) ≤ 7 → KeyScanned (w ++ (b ∷ [])) q (i + 1) Rest)
         → (x1 : Bool) → eqb b equals ≡ x1 → (x2 : Bool) → ltb b 97 ≡ x2 → (x3 : Bool) → ltb 122 b ≡ x3 → (x4 : Bool) → ltb c code_limit ≡ x4
-        → KeyScanned w (b ∷ q) i (cond x1 (KeyRead.Letters c (i + 1)) (cond x2 KeyRead.Torn (cond x3 KeyRead.Torn (cond x4 Rest KeyRead.Torn))))
+        → KeyScanned w (b ∷ q) i (cond x1 (Some (c, i + 1)) (cond x2 None (cond x3 None (cond x4 Rest None))))
     go more true e1 x2 e2 x3 e3 x4 e4 =
         let z : i + 1 + length w ≡ i + suc (length w) = omega arith in
         letters w q (ap (λ (a : ℕ). w ++ (a ∷ q)) (eqb-true b equals e1)) t e z

@@ -1,3 +1,4 @@
+pub mod NumbersLaws
 pub mod ScanSteps
 pub mod DecimalLaws
 pub mod NumberScan

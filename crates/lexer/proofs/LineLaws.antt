@@ -7,15 +7,13 @@ use mathlib.Core.Bool.{Bool, true, false, cond}
 use mathlib.Core.List.{List, [], ◌∷◌, ◌++◌, append-nil, head-eq_of_cons-eq, tail-eq_of_cons-eq, nil≢cons}
 use lib.Dec.{T, eqb}
 use lib.ListN.{length, drop}
-use lib.Seq.{length-take-le}
 use borrow.Author.Tests.{eq-eqb, eqb-true, eqb-false}
 use Rattle.lists.proofs.Tests.{and_right}
-use Rattle.sheet_rules.specs.declared.Place.{Place}
-use Rattle.sheet_rules.specs.Keys.{place_of}
+use Rattle.std.specs.declared.option.Option.{Option}
+use Rattle.std.specs.declared.option.Option.TheVariants.{Some, None}
+use Rattle.sheet_rules.specs.Keys.{place_of, takes}
 use Rattle.sheet_rules.specs.Lines.{newline, comma, equals, in_front, split_on, is_decimal, all_decimals, values, Line, line, torn, numbered, keyed, line_of, unfinished, finished, lines_of}
-use Rattle.lexer.specs.declared.Numbers.{Numbers}
-use Rattle.lexer.specs.declared.LineRead.{LineRead}
-use Rattle.lexer.specs.Scan.{list_of, Fitting}
+use Rattle.lexer.specs.Scan.{FoundLine}
 use Rattle.lexer.proofs.DecimalLaws.{glue, glue_step, not_a_digit, split_on_other, Lacks}
 use Rattle.lexer.proofs.NumberScan.{Class, is_comma, is_digit, is_other, classify, split_form, glue_none}
 use Rattle.lexer.proofs.KeyLaws.{all_letters}
@@ -27,15 +25,10 @@ pub data Refusing : List Line → Type 0 where
   hopeless : {l : Line} {ls : List Line} → Hopeless l → Refusing (l ∷ ls)
 
 -- what a line's reading at a place means for the lines there
-pub data Found (text : List ℕ) (i : ℕ) : LineRead → Type 0 where
-  a_line : {k : Place} {ns : Numbers} {j : ℕ} → lines_of (drop i text) ≡ line k (list_of ns) ∷ lines_of (drop j text) → i < j → j ≤ length text → Fitting k ns
-      → Found text i (LineRead.Line k ns j)
-  no_line : Refusing (lines_of (drop i text)) → Found text i LineRead.Torn
-
--- as many numbers as are counted
-pub length-list_of : (ns : Numbers) → ns.count ≤ 9 → length (list_of ns) ≡ ns.count
-unfolding list_of
-length-list_of ns h = length-take-le ns.count _ (omega arith)
+pub data Found (text : List ℕ) (i : ℕ) : Option FoundLine → Type 0 where
+  a_line : {l : FoundLine} → lines_of (drop i text) ≡ line l.place l.numbers ∷ lines_of (drop l.next text) → i < l.next → l.next ≤ length text
+      → takes l.place (length l.numbers) ≡ true → Found text i (Some l)
+  no_line : Refusing (lines_of (drop i text)) → Found text i None
 
 -- splitting where the byte does not stand
 

@@ -7,18 +7,18 @@ use mathlib.Core.Bool.{Bool, true, false, cond, ◌&&◌}
 use mathlib.Core.List.{List, [], ◌∷◌, ◌++◌, append-nil}
 use lib.Dec.{T, eqb, leb, ltb}
 use lib.ListN.{length}
-use borrow.Author.Tests.{le-ltb, ne_eqb, le-leb, ltb-true, ltb-false, leb-true, leb-false, eqb-true, eqb-false}
+use borrow.Author.Tests.{le-ltb, ne_eqb, le-leb, ltb-false, leb-true, leb-false, eqb-true, eqb-false}
 use Rattle.lists.proofs.Tests.{and_left, and_right, and_intro}
+use Rattle.std.specs.declared.option.Option.{Option}
+use Rattle.std.specs.declared.option.Option.TheVariants.{None}
 use Rattle.sheet_rules.specs.Limits.{decimal_limit}
 use Rattle.sheet_rules.specs.Lines.{newline, comma, digit0, digit9, in_front, split_on, all_digits, value_from, value_of, is_decimal, all_decimals, values}
 use Rattle.lexer.specs.declared.Part.{Part}
 use Rattle.lexer.specs.declared.Part.TheVariants.{Empty, Zero, Digits}
 use Rattle.lexer.specs.declared.Turn.{Turn}
-use Rattle.lexer.specs.declared.Turn.TheVariants.{More, Comma}
-use Rattle.lexer.specs.declared.Numbers.{Numbers}
-use Rattle.lexer.specs.declared.NumbersRead.{NumbersRead}
-use Rattle.lexer.specs.Scan.{PartFits, end_turn, turn_of, with_number, list_of, on_turn, numbers_scan}
-use Rattle.lexer.proofs.DecimalLaws.{with_list, with_count, all_digits_snoc, value_from-append, Written, none_yet, a_zero, some_digits, glue, glue_step, digits_decimal, not_a_digit, digit_after_zero, too_large, Scanned, found, lost, Lacks, split_on_other, after_comma}
+use Rattle.lexer.specs.declared.Turn.TheVariants.{More, Comma, Torn}
+use Rattle.lexer.specs.Scan.{PartFits, end_turn, turn_of, on_turn, numbers_scan}
+use Rattle.lexer.proofs.DecimalLaws.{all_digits_snoc, value_from-append, Written, none_yet, a_zero, some_digits, glue, glue_step, digits_decimal, not_a_digit, digit_after_zero, too_large, Scanned, found, lost, Lacks, split_on_other, after_comma}
 
 -- what a byte is to the numbers of a line
 pub data Class (b : ℕ) : Type 0 where
@@ -41,15 +41,15 @@ is_a_digit b lo hi =
 
 -- a byte that is no digit, comma or byte 10 tears the line
 
-end_other : (v b : ℕ) → (b ≡ comma → ⊥) → (b ≡ newline → ⊥) → end_turn v b ≡ Turn.Torn
+end_other : (v b : ℕ) → (b ≡ comma → ⊥) → (b ≡ newline → ⊥) → end_turn v b ≡ Torn
 end_other v b p q = simp (ne_eqb b comma p, ne_eqb b newline q)
 
-Turn-other : (p : Part) (b : ℕ) → (b ≡ comma → ⊥) → (b ≡ newline → ⊥) → (T (leb digit0 b && leb b digit9) → ⊥) → turn_of p b ≡ Turn.Torn
+Turn-other : (p : Part) (b : ℕ) → (b ≡ comma → ⊥) → (b ≡ newline → ⊥) → (T (leb digit0 b && leb b digit9) → ⊥) → turn_of p b ≡ Torn
 Turn-other Zero b c n d = end_other 0 b c n
 Turn-other Empty b c n d = go (ltb b digit0) refl (ltb digit9 b) refl
   where
     go : (x : Bool) → ltb b digit0 ≡ x → (y : Bool) → ltb digit9 b ≡ y
-        → cond x Turn.Torn (cond y Turn.Torn (cond (eqb b digit0) (More Zero) (More (Digits (b - digit0))))) ≡ Turn.Torn
+        → cond x Torn (cond y Torn (cond (eqb b digit0) (More Zero) (More (Digits (b - digit0))))) ≡ Torn
     go true e y f = refl
     go false e true f = refl
     go false e false f =
@@ -57,9 +57,9 @@ Turn-other Empty b c n d = go (ltb b digit0) refl (ltb digit9 b) refl
 Turn-other (Digits v) b c n d = go (ltb b digit0) refl (ltb digit9 b) refl
   where
     grown : Turn
-    grown = cond (leb (v * 10 + (b - digit0)) decimal_limit) (More (Digits (v * 10 + (b - digit0)))) Turn.Torn
+    grown = cond (leb (v * 10 + (b - digit0)) decimal_limit) (More (Digits (v * 10 + (b - digit0)))) Torn
 
-    go : (x : Bool) → ltb b digit0 ≡ x → (y : Bool) → ltb digit9 b ≡ y → cond x (end_turn v b) (cond y (end_turn v b) grown) ≡ Turn.Torn
+    go : (x : Bool) → ltb b digit0 ≡ x → (y : Bool) → ltb digit9 b ≡ y → cond x (end_turn v b) (cond y (end_turn v b) grown) ≡ Torn
     go true e y f = end_other v b c n
     go false e true f = end_other v b c n
     go false e false f =
@@ -71,7 +71,7 @@ first_digit : (b : ℕ) → digit0 ≤ b → b ≤ digit9 → turn_of Empty b �
 first_digit b lo hi = simp (le-ltb b digit0 lo, le-ltb digit9 b hi)
 
 next_digit : (v b : ℕ) → digit0 ≤ b → b ≤ digit9
-    → turn_of (Digits v) b ≡ cond (leb (v * 10 + (b - digit0)) decimal_limit) (More (Digits (v * 10 + (b - digit0)))) Turn.Torn
+    → turn_of (Digits v) b ≡ cond (leb (v * 10 + (b - digit0)) decimal_limit) (More (Digits (v * 10 + (b - digit0)))) Torn
 next_digit v b lo hi = simp (le-ltb b digit0 lo, le-ltb digit9 b hi)
 
 -- the pieces of a list: there is always a first
@@ -105,51 +105,47 @@ one_value : (b : ℕ) → value_of (b ∷ []) ≡ b - digit0
 unfolding value_from
 one_value b = omega arith
 
-count_one : (ns : Numbers) (v : ℕ) → ns.count ≤ 8 → (with_number ns v).count ≤ 9
-count_one ns v m = omega (arith, with_count ns v)
-
 -- a line's end
-Scanned-end : (ns : Numbers) → ns.count ≤ 8 → (p : Part) (w : List ℕ) → Written p w → PartFits p → (i : ℕ) (rest : List ℕ)
+Scanned-end : (ns : List ℕ) (p : Part) (w : List ℕ) → Written p w → PartFits p → (i : ℕ) (rest : List ℕ)
     → Scanned ns (glue w ([] ∷ [])) (i + 1) (numbers_scan ns p i (newline ∷ rest))
 unfolding numbers_scan glue all_decimals is_decimal all_digits value_from values
-Scanned-end ns m Empty [] none_yet f i rest = lost (λ t. absurd t)
-Scanned-end ns m Zero (_ ∷ []) a_zero f i rest = found tt (with_list ns 0 m) refl (count_one ns 0 m)
-Scanned-end ns m (Digits v) (b ∷ bs) (some_digits d ne e) f i rest =
+Scanned-end ns Empty [] none_yet f i rest = lost (λ t. absurd t)
+Scanned-end ns Zero (_ ∷ []) a_zero f i rest = found tt refl refl
+Scanned-end ns (Digits v) (b ∷ bs) (some_digits d ne e) f i rest =
     found
     (and_intro (is_decimal (b ∷ (bs ++ []))) true
     (subst (λ (l : List ℕ). T (is_decimal l)) (sym (append-nil (b ∷ bs))) (digits_decimal v b bs d ne e f)) tt)
-    (with_list ns v m ∙ ap (λ (n : ℕ). list_of ns ++ (n ∷ [])) (sym e ∙ ap value_of (sym (append-nil (b ∷ bs)))))
-    refl (count_one ns v m)
-Scanned-end ns m Empty (b ∷ bs) x4 f i rest = elim x4 [ ]
-Scanned-end ns m Zero [] x4 f i rest = elim x4 [ ]
-Scanned-end ns m Zero (b ∷ (_ ∷ _)) x9 f i rest = elim x9 [ ]
-Scanned-end ns m (Digits v) [] x5 f i rest = elim x5 [ ]
+    (ap (λ (n : ℕ). ns ++ (n ∷ [])) (sym e ∙ ap value_of (sym (append-nil (b ∷ bs)))))
+    refl
+Scanned-end ns Empty (b ∷ bs) x4 f i rest = elim x4 [ ]
+Scanned-end ns Zero [] x4 f i rest = elim x4 [ ]
+Scanned-end ns Zero (b ∷ (_ ∷ _)) x9 f i rest = elim x9 [ ]
+Scanned-end ns (Digits v) [] x5 f i rest = elim x5 [ ]
 
 -- all that is known of the bytes of a line after a given one
 abbrev Later : List ℕ → List ℕ → Type 0
-Later q rest = (ns : Numbers) → ns.count ≤ 8 → (p : Part) (w : List ℕ) → Written p w → PartFits p → (i : ℕ)
+Later q rest = (ns : List ℕ) (p : Part) (w : List ℕ) → Written p w → PartFits p → (i : ℕ)
     → Scanned ns (glue w (split_on comma q)) (i + suc (length q)) (numbers_scan ns p i (q ++ (newline ∷ rest)))
 
-module _ (q rest : List ℕ) (later : Later q rest) (ns : Numbers) (m : ns.count ≤ 8) (i : ℕ) where
+module _ (q rest : List ℕ) (later : Later q rest) (ns : List ℕ) (i : ℕ) where
   -- a comma after a number of value v, written w
   Scanned-comma : (v : ℕ) (w : List ℕ) → T (is_decimal w) → value_of w ≡ v
       → Scanned ns (w ∷ split_on comma q) (i + suc (suc (length q)))
       (on_turn (Comma v) ns i (λ ns' p'. numbers_scan ns' p' (i + 1) (q ++ (newline ∷ rest))))
   unfolding all_decimals
-  Scanned-comma v w d e = go (ltb ns.count 8) refl
+  Scanned-comma v w d e = go (ltb (length ns) 8) refl
     where
-      go : (x : Bool) → ltb ns.count 8 ≡ x
+      go : (x : Bool) → ltb (length ns) 8 ≡ x
           → Scanned ns (w ∷ split_on comma q) (i + suc (suc (length q)))
-          (cond x (numbers_scan (with_number ns v) Empty (i + 1) (q ++ (newline ∷ rest))) NumbersRead.Torn)
+          (cond x (numbers_scan (ns ++ (v ∷ [])) Empty (i + 1) (q ++ (newline ∷ rest))) None)
       go true t =
-          let n : ns.count < 8 = ltb-true ns.count 8 t in
-          after_comma ns v w (split_on comma q) (i + suc (suc (length q))) _ m d e
-          (subst (λ (ps : List (List ℕ)). Scanned (with_number ns v) ps (i + suc (suc (length q))) (numbers_scan (with_number ns v) Empty (i + 1) (q ++ (newline ∷ rest))))
+          after_comma ns v w (split_on comma q) (i + suc (suc (length q))) _ d e
+          (subst (λ (ps : List (List ℕ)). Scanned (ns ++ (v ∷ [])) ps (i + suc (suc (length q))) (numbers_scan (ns ++ (v ∷ [])) Empty (i + 1) (q ++ (newline ∷ rest))))
           (glue_none comma q)
-          (subst (λ (j : ℕ). Scanned (with_number ns v) (glue [] (split_on comma q)) j (numbers_scan (with_number ns v) Empty (i + 1) (q ++ (newline ∷ rest))))
+          (subst (λ (j : ℕ). Scanned (ns ++ (v ∷ [])) (glue [] (split_on comma q)) j (numbers_scan (ns ++ (v ∷ [])) Empty (i + 1) (q ++ (newline ∷ rest))))
           (let z : i + 1 + suc (length q) ≡ i + suc (suc (length q)) = omega arith in z)
-          (later (with_number ns v) (omega (arith, with_count ns v)) Empty [] none_yet tt (i + 1))))
-      go false t = let n : 8 ≤ ns.count = ltb-false ns.count 8 t in lost (λ _. omega (arith, split_some comma q))
+          (later (ns ++ (v ∷ [])) Empty [] none_yet tt (i + 1))))
+      go false t = let n : 8 ≤ length ns = ltb-false (length ns) 8 t in lost (λ _. omega (arith, split_some comma q))
 
   -- one digit more of the number in progress
   Scanned-digit : (b : ℕ) → (b ≡ comma → ⊥) → (w : List ℕ) (p' : Part) → Written p' (w ++ (b ∷ [])) → PartFits p'
@@ -159,15 +155,15 @@ module _ (q rest : List ℕ) (later : Later q rest) (ns : Numbers) (m : ns.count
       (sym (ap (glue w) (split_on_other comma b q nc) ∙ glue_step w b (split_on comma q)))
       (subst (λ (j : ℕ). Scanned ns (glue (w ++ (b ∷ [])) (split_on comma q)) j (numbers_scan ns p' (i + 1) (q ++ (newline ∷ rest))))
       (let z : i + 1 + suc (length q) ≡ i + suc (suc (length q)) = omega arith in z)
-      (later ns m p' (w ++ (b ∷ [])) wr f (i + 1)))
+      (later ns p' (w ++ (b ∷ [])) wr f (i + 1)))
 
   -- a byte that makes the first piece no decimal
   Scanned-torn : (b : ℕ) → (b ≡ comma → ⊥) → (w : List ℕ) → (T (all_decimals (glue (w ++ (b ∷ [])) (split_on comma q))) → ⊥)
-      → Scanned ns (glue w (split_on comma (b ∷ q))) (i + suc (suc (length q))) NumbersRead.Torn
+      → Scanned ns (glue w (split_on comma (b ∷ q))) (i + suc (suc (length q))) None
   Scanned-torn b nc w h =
       lost (λ t. absurd (h (subst (λ (ps : List (List ℕ)). T (all_decimals ps)) (ap (glue w) (split_on_other comma b q nc) ∙ glue_step w b (split_on comma q)) t)))
 
-  more : Numbers → Part → NumbersRead
+  more : List ℕ → Part → Option (List ℕ × ℕ)
   more ns' p' = numbers_scan ns' p' (i + 1) (q ++ (newline ∷ rest))
 
   Goal : Part → List ℕ → ℕ → Turn → Type 0
@@ -207,7 +203,7 @@ module _ (q rest : List ℕ) (later : Later q rest) (ns : Numbers) (m : ns.count
       value = value_from-append 0 (a ∷ cs) (b ∷ []) ∙ ap (λ (n : ℕ). value_from n (b ∷ [])) e ∙ last_value v b
 
       go : (x : Bool) → leb (v * 10 + (b - digit0)) decimal_limit ≡ x
-          → Goal (Digits v) (a ∷ cs) b (cond x (More (Digits (v * 10 + (b - digit0)))) Turn.Torn)
+          → Goal (Digits v) (a ∷ cs) b (cond x (More (Digits (v * 10 + (b - digit0)))) Torn)
       go true t =
           Scanned-digit b (λ z. omega arith) (a ∷ cs) (Digits (v * 10 + (b - digit0)))
           (some_digits (all_digits_snoc (a ∷ cs) b d (is_a_digit b lo hi)) ne value) (leb-true _ _ t)
@@ -233,5 +229,5 @@ module _ (q rest : List ℕ) (later : Later q rest) (ns : Numbers) (m : ns.count
 -- scanning a line's numbers finds the decimals between its commas, or loses a line that no key takes
 pub scanned : (q : List ℕ) → Lacks newline q → (rest : List ℕ) → Later q rest
 unfolding split_on numbers_scan Goal more
-scanned [] l rest ns m p w wr f i = Scanned-end ns m p w wr f i rest
-scanned (b ∷ q) l rest ns m p w wr f i = at_byte q rest (scanned q l.1 rest) ns m i b (classify b) l.0 p w wr f
+scanned [] l rest ns p w wr f i = Scanned-end ns p w wr f i rest
+scanned (b ∷ q) l rest ns p w wr f i = at_byte q rest (scanned q l.1 rest) ns i b (classify b) l.0 p w wr f

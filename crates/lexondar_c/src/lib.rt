@@ -1,18 +1,14 @@
 // The library that a terminal links: lexondar's questions, exported for C.
 #![tactic(auto)]
 
-ghost use Rattle.sheet_rules.specs.declared.FormReply.{FormReply as FormReplied};
 ghost use Rattle.sheet_rules.specs.declared.Reason.TheVariants.{BufferTooShort};
 ghost use Rattle.sheet_rules.specs.declared.Verdict.{Verdict as VerdictGiven};
+ghost use Rattle.sheet_rules.specs.Answers.{turned_away};
 ghost use Rattle.sheet_rules.specs.Stretch.{form_reply};
 ghost use Rattle.type_rules.specs.FitQuestion.{fit_told, told_refused};
 ghost use Rattle.type_rules.specs.Typing.{verdict};
-ghost use Rattle.bound_rules.specs.declared.BoundReply.{BoundReply as BoundReplied};
 ghost use Rattle.bound_rules.specs.BoundQuestion.{bound_reply};
-ghost use Rattle.machine_rules.specs.declared.RunReply.{RunReply as RunReplied};
 ghost use Rattle.machine_rules.specs.Steps.{run_reply};
-ghost use Rattle.authority_rules.specs.declared.AuthorityReply.{AuthorityReply as AuthorityReplied};
-ghost use Rattle.authority_rules.specs.declared.ReportReply.{ReportReply as Reported};
 ghost use Rattle.authority_rules.specs.AuthorityQuestion.{authority_held};
 ghost use Rattle.authority_rules.specs.Group.{group_held};
 ghost use Rattle.authority_rules.specs.Report.{report};
@@ -44,7 +40,7 @@ pub extern "C" fn lexondar_verdict(text: &[u8], work: &mut [u16]) -> VerdictResu
 // The run of a text's sheet within a budget.
 #[unsafe(no_mangle)]
 pub extern "C" fn lexondar_run(text: &[u8], budget: u32, work: &mut [u16]) -> RunResult
-    ensures { AskedAlone (run_result (run_reply text.now budget)) (run_result (RunReplied.Refused BufferTooShort 0)) work.old work.new result }
+    ensures { AskedAlone (run_result (run_reply text.now budget)) (run_result (turned_away BufferTooShort 0)) work.old work.new result }
 {
     lexondar::lexondar_run(text, budget, work)
 }
@@ -58,7 +54,7 @@ pub extern "C" fn lexondar_authority(
     work: &mut [u16],
     res: &mut [u16],
 ) -> AuthorityResult
-    ensures { Asked 256 (authority_result (held_reply (authority_held text.now budget h))) (authority_result (AuthorityReplied.Refused BufferTooShort 0)) (held_numbers (authority_held text.now budget h)) work.old res.old work.new res.new result }
+    ensures { Asked 256 (authority_result (held_reply (authority_held text.now budget h))) (authority_result (turned_away BufferTooShort 0)) (held_numbers (authority_held text.now budget h)) work.old res.old work.new res.new result }
 {
     lexondar::lexondar_authority(text, budget, h, work, res)
 }
@@ -72,7 +68,7 @@ pub extern "C" fn lexondar_group(
     work: &mut [u16],
     res: &mut [u16],
 ) -> AuthorityResult
-    ensures { Asked 256 (authority_result (held_reply (group_held text.now budget holders.now))) (authority_result (AuthorityReplied.Refused BufferTooShort 0)) (held_numbers (group_held text.now budget holders.now)) work.old res.old work.new res.new result }
+    ensures { Asked 256 (authority_result (held_reply (group_held text.now budget holders.now))) (authority_result (turned_away BufferTooShort 0)) (held_numbers (group_held text.now budget holders.now)) work.old res.old work.new res.new result }
 {
     lexondar::lexondar_group(text, budget, holders, work, res)
 }
@@ -85,7 +81,7 @@ pub extern "C" fn lexondar_report(
     work: &mut [u16],
     res: &mut [u16],
 ) -> ReportResult
-    ensures { Asked every_size (report_result (report_reply (report text.now budget))) (report_result (Reported.Refused BufferTooShort 0)) (report_numbers (report text.now budget)) work.old res.old work.new res.new result }
+    ensures { Asked every_size (report_result (report_reply (report text.now budget))) (report_result (turned_away BufferTooShort 0)) (report_numbers (report text.now budget)) work.old res.old work.new res.new result }
 {
     lexondar::lexondar_report(text, budget, work, res)
 }
@@ -93,7 +89,7 @@ pub extern "C" fn lexondar_report(
 // Where the lines of a form of a text's sheet stand in the text.
 #[unsafe(no_mangle)]
 pub extern "C" fn lexondar_form(text: &[u8], form: usize, work: &mut [u16]) -> FormResult
-    ensures { AskedAlone (form_result (form_reply text.now form)) (form_result (FormReplied.Refused BufferTooShort 0)) work.old work.new result }
+    ensures { AskedAlone (form_result (form_reply text.now form)) (form_result (turned_away BufferTooShort 0)) work.old work.new result }
 {
     lexondar::lexondar_form(text, form, work)
 }
@@ -101,7 +97,7 @@ pub extern "C" fn lexondar_form(text: &[u8], form: usize, work: &mut [u16]) -> F
 // The most steps that a run of a text's sheet can need, if it is sure to finish.
 #[unsafe(no_mangle)]
 pub extern "C" fn lexondar_bound(text: &[u8], work: &mut [u16]) -> BoundResult
-    ensures { AskedAlone (bound_result (bound_reply text.now)) (bound_result (BoundReplied.Refused BufferTooShort 0)) work.old work.new result }
+    ensures { AskedAlone (bound_result (bound_reply text.now)) (bound_result (turned_away BufferTooShort 0)) work.old work.new result }
 {
     lexondar::lexondar_bound(text, work)
 }

@@ -1,22 +1,29 @@
 -- What the code's answers tell, in the rules' words. Stands on the rules' judgements.
-use Rattle.std.specs.Prelude.{ℕ, suc, ◌≡◌, true, not, ◌&&◌, List, [], ◌∷◌, ◌++◌, eqb, leb, length}
+use Rattle.std.specs.Prelude.{ℕ, suc, ◌≡◌, Bool, true, false, not, ◌&&◌, List, [], ◌∷◌, ◌++◌, eqb, leb, length}
+use Rattle.std.specs.declared.result.Result.{Result}
+use Rattle.std.specs.declared.result.Result.TheVariants.{Ok, Err}
 use Rattle.sheet_rules.specs.declared.MemberKind.{MemberKind}
 use Rattle.sheet_rules.specs.declared.Place.{Place}
 use Rattle.sheet_rules.specs.declared.Member.{Member}
 use Rattle.sheet_rules.specs.Keys.{same_place, member_kind}
-use Rattle.lexer.specs.declared.Numbers.{Numbers}
-use Rattle.lexer.specs.Scan.{Fitting}
+use Rattle.lexer.specs.declared.numbers.Numbers.{Numbers}
+use Rattle.lexer.specs.Told.{Fitting}
+use Rattle.sheet_rules.specs.declared.Reason.{Reason}
 use Rattle.sheet_rules.specs.declared.Reason.TheVariants.{DuplicateRow, NotDefined}
 use Rattle.sheet_rules.specs.Sheet.{Row}
 use Rattle.sheet_rules.specs.Reader.{Judged, good, bad, demand}
 use Rattle.sheet_rules.specs.RowLines.{Heading, kind_of, twin, ascends, member_of, mentions_below}
 use Rattle.sheet_rules.specs.FormLines.{FormHeading}
-use Rattle.line_judges.specs.declared.LineJudged.{LineJudged}
 
 -- a line, judged: what is then made of its numbers, or the refusal
-abbrev pub line_told : {A : Type 0} → LineJudged → Judged A → Judged A
-line_told LineJudged.Good x = x
-line_told (LineJudged.Refused r) x = bad r
+abbrev pub line_told : {A : Type 0} → Result Unit Reason → Judged A → Judged A
+line_told (Ok _) x = x
+line_told (Err r) x = bad r
+
+-- a test that a line must pass, by itself
+abbrev pub demanded : Bool → Reason → Result Unit Reason
+demanded true r = Ok tt
+demanded false r = Err r
 
 -- what a `type` line's numbers make, but for its twin, which is asked of a row without members
 abbrev pub row_told : List Row → ℕ → ℕ → Judged Heading

@@ -1,1 +1,2 @@
+pub mod ExitLaws
 pub mod TakeLaws

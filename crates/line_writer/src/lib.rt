@@ -20,10 +20,10 @@ pub fn put_decimal(out: &mut [u8], at: usize, n: u32) -> usize
     ensures { Put 10 at (decimal n) out.old out.new result }
 {
     if n < 10 {
-        return put_byte(out, at, 48 + n as u8);
+        return put_byte(out, at, b'0' + n as u8);
     }
     let next = put_decimal(out, at, n / 10);
-    put_byte(out, next, 48 + (n % 10) as u8)
+    put_byte(out, next, b'0' + (n % 10) as u8)
 }
 
 // Puts the bytes of a word; answers the place after them.
@@ -32,10 +32,8 @@ pub fn put_word(out: &mut [u8], at: usize, word: &[u8]) -> usize
     ensures { Put (length word.now) at word.now out.old out.new result }
 {
     let mut next = at;
-    let mut i: usize = 0;
-    while i < word.len() {
-        next = put_byte(out, next, word[i]);
-        i = i + 1;
+    for &byte in word {
+        next = put_byte(out, next, byte);
     }
     next
 }
@@ -63,11 +61,9 @@ pub fn put_numbers(out: &mut [u8], at: usize, numbers: &[u16], from: usize, n: u
     ensures { Put (11 * n) at (further (take n (drop from numbers.now))) out.old out.new result }
 {
     let mut next = at;
-    let mut i: usize = 0;
-    while i < n {
+    for i in 0..n {
         next = put_byte(out, next, b',');
         next = put_decimal(out, next, wide(numbers[from + i]));
-        i = i + 1;
     }
     next
 }

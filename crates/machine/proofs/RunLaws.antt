@@ -1,12 +1,11 @@
 -- The run's loop: what it keeps, a law for its start, for a step, and for its end; the sheet's run, and its answer. Assumes nothing.
 use Prim.Native.Nat.{ℕ, suc, pred, ◌-◌, ◌≤◌, ◌<◌}
 use native.Mathlib.Omega.{arith}
-use mathlib.Core.Path.{◌≡◌, refl, sym, ap, ◌∙◌, subst}
+use mathlib.Core.Path.{◌≡◌, sym, ap, ◌∙◌, subst}
 use mathlib.Core.List.{List}
-use mathlib.Core.Logic.{◌⊎◌, inl, inr}
-use denote.Enum.Declared.{tag_of}
 use lib.ListN.{length}
 use Rattle.lists.specs.Tab.{tab}
+use Rattle.std.specs.declared.result.Result.TheVariants.{Ok}
 use Rattle.sheet_rules.specs.Sheet.{Sheet}
 use Rattle.machine_rules.specs.declared.Outcome.{Outcome}
 use Rattle.machine_rules.specs.declared.Tally.{Tally}
@@ -28,10 +27,8 @@ use Rattle.machine_state.specs.declared.Top.{Top}
 use Rattle.machine_state.specs.Held.{slots_in, state_in}
 use Rattle.machine_steps.specs.Running.{Running, Took}
 use Rattle.machine_steps.proofs.FacingLaws.{frames_few, room, last_is}
-use Rattle.machine.specs.declared.Move.{Move}
-use Rattle.machine.specs.contracts.Move.{the_type}
 use Rattle.machine.specs.declared.Halt.{Halt}
-use Rattle.machine.specs.Runs.{Moved, Ends, start_top, outcome_of, Able, DevicesPut, Ready, SheetRun}
+use Rattle.machine.specs.Runs.{Moved, Ends, start_top, Able, DevicesPut, Ready, SheetRun}
 use Rattle.machine.proofs.StartLaws.{sheet_kept, start_is}
 
 -- a step taken leaves a run
@@ -81,7 +78,7 @@ Going-start w budget a =
 
 module _ (w₀ : List ℕ) (budget : ℕ) (w : List ℕ) (t : Top) (k : Tally) (g : Going w₀ budget w t k) where
   -- a step
-  pub Going-step : (w' : List ℕ) (t' : Top) (k' : Tally) → Moved budget w t k w' (Move.Taken t' k') → Going w₀ budget w' t' k'
+  pub Going-step : (w' : List ℕ) (t' : Top) (k' : Tally) → Moved budget w t k w' (Ok (t', k')) → Going w₀ budget w' t' k'
   Going-step w' t' k' (o, n, h) =
       record {
         running = Took-Running w t k w' t' k' g.running o;
@@ -101,24 +98,10 @@ module _ (w₀ : List ℕ) (budget : ℕ) (w : List ℕ) (t : Top) (k : Tally) (
       more = omega arith
 
   -- the end
-  halted : (w' : List ℕ) (o : Outcome) → Ends budget w t k w' o → SheetRun w₀ budget w' (record { outcome = o; top = t; tally = k })
+  pub halted : (w' : List ℕ) (o : Outcome) → Ends budget w t k w' o → SheetRun w₀ budget w' (record { outcome = o; top = t; tally = k })
   halted w' o e =
       subst (λ (x : List ℕ). SheetRun w₀ budget x (record { outcome = o; top = t; tally = k })) (sym e.left)
       (record { ran = sym g.same ∙ e.here; running = g.running; within = g.within; only = Only-widen (omega arith) (omega arith) g.only })
-
-  -- whichever it was: any but a step taken
-  none_taken : (x : ℕ) → (x ≡ 1) ⊎ ((x ≡ 2) ⊎ ((x ≡ 3) ⊎ (x ≡ 4))) → x ≡ 0 → ⊥
-  none_taken x (inl e) q = omega arith
-  none_taken x (inr (inl e)) q = omega arith
-  none_taken x (inr (inr (inl e))) q = omega arith
-  none_taken x (inr (inr (inr e))) q = omega arith
-
-  pub going_ends : (w' : List ℕ) (m : Move) → Moved budget w t k w' m → (tag_of the_type m ≡ 1) ⊎ ((tag_of the_type m ≡ 2) ⊎ ((tag_of the_type m ≡ 3) ⊎ (tag_of the_type m ≡ 4))) → SheetRun w₀ budget w' (record { outcome = outcome_of m; top = t; tally = k })
-  going_ends w' (Move.Taken t' k') e d = absurd (none_taken 0 d refl)
-  going_ends w' Move.Finished e d = halted w' (outcome_of Move.Finished) e
-  going_ends w' Move.Spent e d = halted w' (outcome_of Move.Spent) e
-  going_ends w' Move.StoreFull e d = halted w' (outcome_of Move.StoreFull) e
-  going_ends w' Move.StackFull e d = halted w' (outcome_of Move.StackFull) e
 
 -- the sheet's run: its members are located, its devices are put in their places, and then it is run
 

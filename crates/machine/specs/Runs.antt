@@ -1,6 +1,8 @@
 -- What a step and a run promise, in the work buffer. Stands on the rules' next step and run, and on the state that the buffer
 -- holds.
 use Rattle.std.specs.Prelude.{ℕ, suc, ◌+◌, ◌-◌, ◌≤◌, ◌<◌, ◌≡◌, List, length, set}
+use Rattle.std.specs.declared.result.Result.{Result}
+use Rattle.std.specs.declared.result.Result.TheVariants.{Ok, Err}
 use Rattle.sheet_rules.specs.Sheet.{device_at}
 use Rattle.machine_rules.specs.declared.Outcome.{Outcome}
 use Rattle.machine_rules.specs.declared.Outcome.TheVariants.{Done, Spent, StoreFull, StackFull}
@@ -17,37 +19,25 @@ use Rattle.machine_places.specs.Located.{Located}
 use Rattle.machine_state.specs.declared.Top.{Top}
 use Rattle.machine_state.specs.Held.{state_in}
 use Rattle.machine_steps.specs.Running.{Running, Took}
-use Rattle.machine.specs.declared.Move.{Move}
 use Rattle.machine.specs.declared.Halt.{Halt}
 
 -- what came of trying the step of an instruction: it was taken and counted; or the rules stop it, and nothing is changed
-abbrev pub Tried : List ℕ → Top → Tally → List ℕ → Move → Type 0
-Tried w t k w' (Move.Taken t' k') = Took w t k w' t' k' × (k'.steps ≡ suc k.steps)
-Tried w t k w' Move.Finished = ⊥
-Tried w t k w' Move.Spent = ⊥
-Tried w t k w' Move.StoreFull = (next_step (sheet_in w) (state_in (sheet_in w) w t k) ≡ store_full) × (w' ≡ w)
-Tried w t k w' Move.StackFull = (next_step (sheet_in w) (state_in (sheet_in w) w t k) ≡ stack_full) × (w' ≡ w)
+abbrev pub Tried : List ℕ → Top → Tally → List ℕ → Result (Top × Tally) Outcome → Type 0
+Tried w t k w' (Ok to) = Took w t k w' to.0 to.1 × (to.1.steps ≡ suc k.steps)
+Tried w t k w' (Err Done) = ⊥
+Tried w t k w' (Err Spent) = ⊥
+Tried w t k w' (Err StoreFull) = (next_step (sheet_in w) (state_in (sheet_in w) w t k) ≡ store_full) × (w' ≡ w)
+Tried w t k w' (Err StackFull) = (next_step (sheet_in w) (state_in (sheet_in w) w t k) ≡ stack_full) × (w' ≡ w)
 
 -- the rules' run within the budget goes no further than this state, and ends so; nothing is changed
 pub record Ends (budget : ℕ) (w : List ℕ) (t : Top) (k : Tally) (w' : List ℕ) (o : Outcome) : Type 0 where
   pub here : run_from (sheet_in w) (budget - k.steps) k.steps (state_in (sheet_in w) w t k) ≡ ended o k.steps (state_in (sheet_in w) w t k)
   pub left : w' ≡ w
 
--- why a step was not taken; of one that was taken nobody asks
-abbrev pub outcome_of : Move → Outcome
-outcome_of (Move.Taken t k) = Spent
-outcome_of Move.Finished = Done
-outcome_of Move.Spent = Spent
-outcome_of Move.StoreFull = StoreFull
-outcome_of Move.StackFull = StackFull
-
 -- one step within the budget: taken and counted; or the run ends
-abbrev pub Moved : ℕ → List ℕ → Top → Tally → List ℕ → Move → Type 0
-Moved budget w t k w' (Move.Taken t' k') = Took w t k w' t' k' × (k'.steps ≡ suc k.steps) × (k.steps < budget)
-Moved budget w t k w' Move.Finished = Ends budget w t k w' (outcome_of Move.Finished)
-Moved budget w t k w' Move.Spent = Ends budget w t k w' (outcome_of Move.Spent)
-Moved budget w t k w' Move.StoreFull = Ends budget w t k w' (outcome_of Move.StoreFull)
-Moved budget w t k w' Move.StackFull = Ends budget w t k w' (outcome_of Move.StackFull)
+abbrev pub Moved : ℕ → List ℕ → Top → Tally → List ℕ → Result (Top × Tally) Outcome → Type 0
+Moved budget w t k w' (Ok to) = Took w t k w' to.0 to.1 × (to.1.steps ≡ suc k.steps) × (k.steps < budget)
+Moved budget w t k w' (Err o) = Ends budget w t k w' o
 
 -- where main's frame stands at the start: its first slots have the devices
 abbrev pub start_top : List ℕ → Top

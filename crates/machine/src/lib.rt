@@ -11,27 +11,24 @@ ghost use Rattle.table.specs.Whole.{Whole};
 ghost use Rattle.accepted.specs.Accepted.{AcceptedIn};
 ghost use Rattle.machine_state.specs.Held.{slots_in, state_in};
 ghost use Rattle.machine_steps.specs.Running.{Running, Facing};
-ghost use Rattle.machine.specs.Runs.{Tried, Moved, Able, start_top, device_put, DevicesPut, Ready, outcome_of, SheetRun, SheetAnswered};
+ghost use Rattle.machine.specs.Runs.{Tried, Moved, Able, start_top, device_put, DevicesPut, Ready, SheetRun, SheetAnswered};
 
 use machine_rules::{Outcome, RunAnswer, Tally};
 use machine_state::{Top, narrow};
 use machine_steps::creation::new_step;
 use machine_steps::frames::{call_step, return_step};
+use machine_steps::{copy_step, get_step, put_step};
 use table::instrs::Instruction;
 use table::rows::wide;
 
-// One step taken, or why there is none.
-#[derive(Clone, Copy)]
-pub enum Move {
-    Taken { top: Top, tally: Tally },
-    Finished,
-    Spent,
-    StoreFull,
-    StackFull,
-}
+// The value of a run that is not finished.
+const NO_VALUE: u16 = 65535;
+
+// Where a run stands: the frame in hand, and the counts.
+type Stand = (Top, Tally);
 
 // How a run halted: why, where the frame in hand stands, and the counts.
-#[derive(Clone, Copy)]
+#[derive(Clone, Copy, Debug, PartialEq, Eq)]
 pub struct Halt {
     pub outcome: Outcome,
     pub top: Top,
@@ -39,95 +36,79 @@ pub struct Halt {
 }
 
 // `new`, if the store has a place.
-fn try_new(work: &mut [u16], top: Top, tally: Tally, form: u16) -> Move
+fn try_new(work: &mut [u16], top: Top, tally: Tally, form: u16) -> Result<Stand, Outcome>
     requires { Facing work.old top tally (new form (new_slots work.old top.next)) × (tally.steps < 4294967295) }
     ensures { Tried work.old top tally work.new result }
 {
     if Tally::PLACES <= tally.objects {
-        return Move::StoreFull;
+        return Err(Outcome::StoreFull);
     }
-    Move::Taken {
-        top: new_step(work, top, tally, form),
-        tally: tally.with_object(),
-    }
+    Ok((new_step(work, top, tally, form), tally.with_object()))
 }
 
 // `call`, if the stack has room for a frame.
-fn try_call(work: &mut [u16], top: Top, tally: Tally, v: usize, n: usize, a: usize) -> Move
+fn try_call(
+    work: &mut [u16],
+    top: Top,
+    tally: Tally,
+    v: usize,
+    n: usize,
+    a: usize,
+) -> Result<Stand, Outcome>
     requires { Facing work.old top tally (call v n a) × (tally.steps < 4294967295) }
     ensures { Tried work.old top tally work.new result }
 {
     if Tally::STACK <= tally.frames {
-        return Move::StackFull;
+        return Err(Outcome::StackFull);
     }
-    Move::Taken {
-        top: call_step(work, top, tally, v, n, a),
-        tally: tally.with_frame(),
-    }
+    Ok((call_step(work, top, tally, v, n, a), tally.with_frame()))
 }
 
 // The next instruction, matched to its step.
-fn take_instr(work: &mut [u16], top: Top, tally: Tally) -> Move
+fn take_instr(work: &mut [u16], top: Top, tally: Tally) -> Result<Stand, Outcome>
     requires { Running work.old top tally × (top.next < top.end) × (tally.steps < 4294967295) }
     ensures { Tried work.old top tally work.new result }
 {
-    let instr = table::instrs::instr_placed(work, top.next);
-    match instr {
+    match table::instrs::instr_placed(work, top.next) {
         Instruction::New { form } => try_new(work, top, tally, form),
         Instruction::Call {
             object,
             name,
             argument,
         } => try_call(work, top, tally, wide(object), wide(name), wide(argument)),
-        Instruction::Get { name } => Move::Taken {
-            top: machine_steps::get_step(work, top, tally, wide(name)),
-            tally: tally.with_step(),
-        },
-        Instruction::Put { name, value } => Move::Taken {
-            top: machine_steps::put_step(work, top, tally, wide(name), wide(value)),
-            tally: tally.with_step(),
-        },
-        Instruction::Copy { slot } => Move::Taken {
-            top: machine_steps::copy_step(work, top, tally, wide(slot)),
-            tally: tally.with_step(),
-        },
+        Instruction::Get { name } => Ok((
+            get_step(work, top, tally, wide(name)),
+            tally.with_step(),
+        )),
+        Instruction::Put { name, value } => Ok((
+            put_step(work, top, tally, wide(name), wide(value)),
+            tally.with_step(),
+        )),
+        Instruction::Copy { slot } => Ok((
+            copy_step(work, top, tally, wide(slot)),
+            tally.with_step(),
+        )),
     }
 }
 
-// One step, or why there is none: asked in the paper's order, finished, spent, store full, stack full.
-fn advance(work: &mut [u16], top: Top, tally: Tally, most: usize) -> Move
+// One step, or why there is none, asked in this order: finished, spent, store full, stack full.
+fn advance(work: &mut [u16], top: Top, tally: Tally, most: usize) -> Result<Stand, Outcome>
     requires { Running work.old top tally × (tally.steps ≤ most) × (most < 4294967296) }
     ensures { Moved most work.old top tally work.new result }
 {
     if top.next < top.end {
         if tally.steps == most {
-            return Move::Spent;
+            return Err(Outcome::Spent);
         }
         return take_instr(work, top, tally);
     }
     if tally.frames <= 1 {
-        return Move::Finished;
+        return Err(Outcome::Done);
     }
     if tally.steps == most {
-        return Move::Spent;
+        return Err(Outcome::Spent);
     }
-    Move::Taken {
-        top: return_step(work, top, tally),
-        tally: tally.without_frame(),
-    }
-}
-
-// Why a step was not taken; of one that was taken nobody asks.
-fn outcome_of(moved: Move) -> Outcome
-    ensures { result ≡ outcome_of moved }
-{
-    match moved {
-        Move::Taken { .. } => Outcome::Spent,
-        Move::Finished => Outcome::Done,
-        Move::Spent => Outcome::Spent,
-        Move::StoreFull => Outcome::StoreFull,
-        Move::StackFull => Outcome::StackFull,
-    }
+    Ok((return_step(work, top, tally), tally.without_frame()))
 }
 
 // Puts device d into the store, and into main's slot of its number.
@@ -146,10 +127,8 @@ fn put_devices(work: &mut [u16])
     ensures { DevicesPut work.old work.new }
 {
     let count = wide(table::devices::device_count(work));
-    let mut d = 0;
-    while d < count {
+    for d in 0..count {
         put_device(work, d);
-        d = d + 1;
     }
 }
 
@@ -176,16 +155,19 @@ fn run(work: &mut [u16], budget: u32) -> Halt
     let mut top = start_top(work);
     let mut tally = Tally::start(top.filled);
     loop {
-        let moved = advance(work, top, tally, most);
-        let Move::Taken { top: t, tally: k } = moved else {
-            return Halt {
-                outcome: outcome_of(moved),
-                top,
-                tally,
-            };
-        };
-        top = t;
-        tally = k;
+        match advance(work, top, tally, most) {
+            Ok((frame, counts)) => {
+                top = frame;
+                tally = counts;
+            }
+            Err(outcome) => {
+                return Halt {
+                    outcome,
+                    top,
+                    tally,
+                };
+            }
+        }
     }
 }
 
@@ -217,9 +199,7 @@ fn value_of(work: &[u16], outcome: Outcome, top: Top, tally: Tally) -> u16
 {
     match outcome {
         Outcome::Done => last_slot(work, top, tally),
-        Outcome::Spent => 65535,
-        Outcome::StoreFull => 65535,
-        Outcome::StackFull => 65535,
+        _ => NO_VALUE,
     }
 }
 
@@ -242,6 +222,5 @@ pub fn answer_sheet(work: &mut [u16], budget: u32) -> RunAnswer
     ensures { SheetAnswered work.old budget work.new result }
 {
     let halt = run_sheet(work, budget);
-    let outcome = halt.outcome;
-    answer(work, outcome, halt.top, halt.tally)
+    answer(work, halt.outcome, halt.top, halt.tally)
 }

@@ -9,7 +9,7 @@ use mathlib.Core.Bool.{Bool, true, false, cond}
 use mathlib.Core.List.{List, [], ◌∷◌}
 use mathlib.Core.Option.{Option, none, some}
 use lib.Dec.{eqb}
-use lib.ListN.{length, get_or, set, length-set}
+use lib.ListN.{length, get_or, length-set}
 use lib.Seq.{get_or-set_same, get_or-set_other}
 use borrow.Author.Tests.{eqb-true}
 use Rattle.lists.specs.In.{In, here, there}
@@ -46,21 +46,6 @@ forms_only s w zero = Only-refl table_end (slot_row_address 0) w
 forms_only s w (suc f) = Only-trans (forms_only s w f) (members_only (forms_placed s w f) f (row_of_form s f).members 0 0)
 
 -- the two stores of a member
-
-module _ (w w' : List ℕ) (f : ℕ) (m : Member) (j i n p : ℕ) where
-  pub method_stored : (name a r : ℕ) → m ≡ Method name a r → n ≡ name → p ≡ place_address f n → w' ≡ set w p j
-      → (i ≡ fields_after m i) × (w' ≡ member_placed w f m j i)
-  method_stored name a r em en ep e = (
-    ap (λ (x : Member). fields_after x i) (sym em),
-    e ∙ ap (λ (x : ℕ). set w x j) (ep ∙ ap (place_address f) en) ∙ ap (λ (x : Member). member_placed w f x j i) (sym em),
-  )
-
-  pub field_stored : (name r : ℕ) → m ≡ Field name r → n ≡ name → p ≡ place_address f n → w' ≡ set w p i
-      → (i + 1 ≡ fields_after m i) × (w' ≡ member_placed w f m j i)
-  field_stored name r em en ep e = (
-    ap (λ (x : Member). fields_after x i) (sym em),
-    e ∙ ap (λ (x : ℕ). set w x i) (ep ∙ ap (place_address f) en) ∙ ap (λ (x : Member). member_placed w f x j i) (sym em),
-  )
 
 -- one form more, at the code's sum
 pub forms_next : (s : Sheet) (w : List ℕ) (f : ℕ) → members_placed (forms_placed s w f) f (row_of_form s f).members 0 0 ≡ forms_placed s w (f + 1)

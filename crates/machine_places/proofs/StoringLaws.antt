@@ -11,11 +11,10 @@ use Rattle.sheet_rules.specs.declared.Member.{Member}
 use Rattle.sheet_rules.specs.declared.Member.TheVariants.{Method, Field}
 use Rattle.sheet_rules.specs.Sheet.{Sheet, no_member, form_at}
 use Rattle.type_rules.specs.SlotRows.{members_at}
-use Rattle.table.specs.Layout.{work_size}
 use Rattle.table.specs.View.{member_in, sheet_in}
 use Rattle.table.specs.Whole.{Whole}
-use Rattle.table.proofs.ViewLaws.{Only-refl, Only-trans, member_same}
-use Rattle.table.proofs.SheetLaws.{member_row_small, member_there}
+use Rattle.table.proofs.ViewLaws.{Only-trans, member_same}
+use Rattle.table.proofs.SheetLaws.{member_there}
 use Rattle.machine_places.specs.Located.{PlacesFilled}
 use Rattle.machine_places.specs.Placed.{fields_after, member_placed, members_placed, forms_placed}
 use Rattle.machine_places.proofs.PlacedLaws.{PlacesOnly, Member-only, forms_only, forms_next}
@@ -32,22 +31,11 @@ fields_most : (m : Member) (j i : ℕ) → i ≤ j → fields_after m i ≤ j + 
 fields_most (Method n a r) j i h = omega arith
 fields_most (Field n r) j i h = omega arith
 
-pub Storing-start : (w : List ℕ) (f row count : ℕ) → Storing w f row count w 0 0
-Storing-start w f row count = record { within = omega arith; few = omega arith; only = Only-refl _ _ w; rest = refl }
-
 module _ (w₀ : List ℕ) (f row count : ℕ) (h : Whole w₀) (counted : (count ≡ length (members_at (sheet_in w₀) row)) × (count ≤ 8)) where
   abbrev members : List Member
   members = members_at (sheet_in w₀) row
 
   module _ (w : List ℕ) (i j : ℕ) (s : Storing w₀ f row count w i j) where
-    -- a turn asks for a member that is there
-    pub storing_asks : j < count → (row < 64) × (j < 8) × (work_size ≤ length w)
-    storing_asks l = (
-      member_row_small w₀ h row j (omega (arith, counted.0)),
-      omega (arith, counted.1),
-      omega (arith, s.only.size, h.size),
-    )
-
     the_member : j < count → member_in w row j ≡ get_or members j no_member
     the_member l =
         member_same w₀ w row j (λ k a b. s.only.below k (omega arith))
@@ -85,9 +73,6 @@ module _ (w₀ : List ℕ) (f row count : ℕ) (h : Whole w₀) (counted : (coun
 module _ (w₀ : List ℕ) (h : Whole w₀) (w : List ℕ) (f : ℕ) (stored : w ≡ forms_placed (sheet_in w₀) w₀ f) where
   forms_stored : PlacesOnly w₀ w
   forms_stored = subst (PlacesOnly w₀) (sym stored) (forms_only (sheet_in w₀) w₀ f)
-
-  pub forms_size : length w ≡ length w₀
-  forms_size = forms_stored.size
 
   pub forms_whole : Whole w
   forms_whole = places_whole w₀ w forms_stored h

@@ -10,7 +10,7 @@ ghost use Rattle.machine_places.specs.Located.{PlacesFilled};
 ghost use Rattle.machine_places.specs.Placed.{fields_after, member_placed, members_placed};
 
 use sheet_rules::Member;
-use table::rows::wide;
+use table::rows::{fit_address, fit_place, wide};
 
 // Stores the number of a member of form f's row, where j members come before it, `fields` of them fields: a method's number is
 // that of its part, a field's its place among the fields. Answers how many fields there are up to it.
@@ -20,11 +20,11 @@ fn place_member(work: &mut [u16], f: usize, m: Member, j: usize, fields: usize) 
 {
     match m {
         Member::Method { name, .. } => {
-            table::put(work, table::rows::fit_address(f, wide(name)), j as u16);
+            table::put(work, fit_address(f, wide(name)), j as u16);
             fields
         }
         Member::Field { name, .. } => {
-            table::put(work, table::rows::fit_address(f, wide(name)), fields as u16);
+            table::put(work, fit_address(f, wide(name)), fields as u16);
             fields + 1
         }
     }
@@ -37,11 +37,9 @@ fn locate_form(work: &mut [u16], f: usize, row: usize)
 {
     let count = table::rows::members_at(work, row);
     let mut fields: usize = 0;
-    let mut j: usize = 0;
-    while j < count {
+    for j in 0..count {
         let m = table::rows::member(work, row, j);
         fields = place_member(work, f, m, j, fields);
-        j = j + 1;
     }
 }
 
@@ -51,11 +49,9 @@ pub fn locate(work: &mut [u16])
     ensures { PlacesFilled work.old work.new }
 {
     let count = table::forms::form_count(work);
-    let mut f: usize = 0;
-    while f < count {
+    for f in 0..count {
         let row = wide(table::forms::form_row(work, f));
         locate_form(work, f, row);
-        f = f + 1;
     }
 }
 
@@ -64,5 +60,5 @@ pub fn place(work: &[u16], f: usize, n: usize) -> usize
     requires { (f < 64) × (n < 64) × (work_size ≤ length work.now) }
     ensures { result ≡ cell_of work.now (place_address f n) }
 {
-    wide(work[15888 + (64 * f + n)])
+    wide(work[fit_place(f, n)])
 }

@@ -7,7 +7,10 @@ use mathlib.Core.List.{List, [], ◌∷◌, ◌++◌, map}
 use lib.ListN.{take, replicate}
 use Rattle.sheet_rules.specs.Answers.{number_of}
 use Rattle.sheet_rules.specs.Samples.{text_of, with_line, P, L, D}
-use Rattle.machine_rules.specs.declared.RunReply.{RunReply}
+use Rattle.machine_rules.specs.declared.RunAnswer.{RunAnswer}
+use Rattle.sheet_rules.specs.declared.Refusal.{Refusal}
+use Rattle.std.specs.declared.result.Result.TheVariants.{Ok, Err}
+use Rattle.std.specs.declared.result.Result.{Result}
 use Rattle.machine_rules.specs.Steps.{run_reply, outcome_number}
 use Rattle.machine_rules.proofs.Opened.{running}
 
@@ -55,9 +58,9 @@ swap =
     ∷ []
 
 -- outcome, steps, value and number of objects; or the refusal's number and line
-abbrev numbers : RunReply → List ℕ
-numbers (RunReply.Ran a) = outcome_number a.outcome ∷ a.steps ∷ a.value ∷ a.objects ∷ []
-numbers (RunReply.Refused r n) = number_of r ∷ n ∷ []
+abbrev numbers : Result RunAnswer Refusal → List ℕ
+numbers (Ok a) = outcome_number a.outcome ∷ a.steps ∷ a.value ∷ a.objects ∷ []
+numbers (Err e) = number_of e.reason ∷ e.line ∷ []
 
 record Case : Type 0 where
   sheet : List String

@@ -8,7 +8,10 @@ use Rattle.machine_rules.specs.declared.Outcome.{Outcome}
 use Rattle.machine_rules.specs.declared.Outcome.TheVariants.{Done, Spent, StoreFull, StackFull}
 use Rattle.machine_rules.specs.declared.Tally.{Tally}
 use Rattle.machine_rules.specs.declared.RunAnswer.{RunAnswer}
-use Rattle.machine_rules.specs.declared.RunReply.{RunReply}
+use Rattle.sheet_rules.specs.Answers.{turned_away}
+use Rattle.sheet_rules.specs.declared.Refusal.{Refusal}
+use Rattle.std.specs.declared.result.Result.TheVariants.{Ok}
+use Rattle.std.specs.declared.result.Result.{Result}
 use Rattle.machine_rules.specs.State.{State, start, frame_count, last_of}
 use Rattle.machine_rules.specs.Step.{Action, creates, calls, returns, works, Next, finished, step, store_full, stack_full, lacking, next_step}
 
@@ -180,5 +183,5 @@ answer_of r =
     }
 
 -- what the run question answers for a text and a budget, its buffer left aside: only an accepted sheet is run (The machine)
-unfoldable pub run_reply : List ℕ → ℕ → RunReply
-run_reply text budget = accepted_on typing RunReply.Refused (λ s. RunReply.Ran (answer_of (run s budget))) (meaning text)
+unfoldable pub run_reply : List ℕ → ℕ → Result RunAnswer Refusal
+run_reply text budget = accepted_on typing turned_away (λ s. Ok (answer_of (run s budget))) (meaning text)

@@ -2,12 +2,10 @@
 #![tactic(auto)]
 
 ghost use Rattle.std.specs.Prelude.{◌≡◌, ◌<◌};
-ghost use Rattle.machine_rules.specs.Steps.{tally, start_tally, created, called, returned, worked};
-
-use sheet_rules::Reason;
+ghost use Rattle.machine_rules.specs.Steps.{start_tally, created, called, returned, worked};
 
 // How a run ended, in the order of the paper's numbers 0 to 3.
-#[derive(Clone, Copy)]
+#[derive(Clone, Copy, Debug, PartialEq, Eq)]
 pub enum Outcome {
     Done,
     Spent,
@@ -17,7 +15,7 @@ pub enum Outcome {
 
 // The counts that a run keeps up: steps taken, objects made, frames on the stack. They are words, so that each stays in a
 // register of its own.
-#[derive(Clone, Copy)]
+#[derive(Clone, Copy, Debug, PartialEq, Eq)]
 pub struct Tally {
     pub steps: usize,
     pub objects: usize,
@@ -47,7 +45,8 @@ impl Tally {
         requires { (self.old.steps < 4294967295) × (self.old.objects < 256) }
         ensures { self.new ≡ created self.old }
     {
-        *self = after_creation(self.steps, self.objects, self.frames);
+        self.steps += 1;
+        self.objects += 1;
     }
 
     // Counts a step that called.
@@ -55,7 +54,8 @@ impl Tally {
         requires { (self.old.steps < 4294967295) × (self.old.frames < 64) }
         ensures { self.new ≡ called self.old }
     {
-        *self = after_call(self.steps, self.objects, self.frames);
+        self.steps += 1;
+        self.frames += 1;
     }
 
     // Counts a step that returned.
@@ -63,7 +63,8 @@ impl Tally {
         requires { (self.old.steps < 4294967295) × (0 < self.old.frames) }
         ensures { self.new ≡ returned self.old }
     {
-        *self = after_return(self.steps, self.objects, self.frames);
+        self.steps += 1;
+        self.frames -= 1;
     }
 
     // Counts any other step.
@@ -71,110 +72,51 @@ impl Tally {
         requires { self.old.steps < 4294967295 }
         ensures { self.new ≡ worked self.old }
     {
-        *self = after_work(self.steps, self.objects, self.frames);
+        self.steps += 1;
     }
 
     // The tally after a step that made an object.
-    pub fn with_object(self) -> Tally
+    pub fn with_object(mut self) -> Tally
         requires { (self.steps < 4294967295) × (self.objects < 256) }
         ensures { result ≡ created self }
     {
-        let mut tally = self;
-        tally.add_object();
-        tally
+        self.add_object();
+        self
     }
 
     // The tally after a step that called.
-    pub fn with_frame(self) -> Tally
+    pub fn with_frame(mut self) -> Tally
         requires { (self.steps < 4294967295) × (self.frames < 64) }
         ensures { result ≡ called self }
     {
-        let mut tally = self;
-        tally.add_frame();
-        tally
+        self.add_frame();
+        self
     }
 
     // The tally after a step that returned.
-    pub fn without_frame(self) -> Tally
+    pub fn without_frame(mut self) -> Tally
         requires { (self.steps < 4294967295) × (0 < self.frames) }
         ensures { result ≡ returned self }
     {
-        let mut tally = self;
-        tally.drop_frame();
-        tally
+        self.drop_frame();
+        self
     }
 
     // The tally after any other step.
-    pub fn with_step(self) -> Tally
+    pub fn with_step(mut self) -> Tally
         requires { self.steps < 4294967295 }
         ensures { result ≡ worked self }
     {
-        let mut tally = self;
-        tally.add_step();
-        tally
-    }
-}
-
-// The counts after a step that made an object.
-fn after_creation(steps: usize, objects: usize, frames: usize) -> Tally
-    requires { (steps < 4294967295) × (objects < 256) }
-    ensures { result ≡ created (tally steps objects frames) }
-{
-    Tally {
-        steps: steps + 1,
-        objects: objects + 1,
-        frames,
-    }
-}
-
-// The counts after a step that called.
-fn after_call(steps: usize, objects: usize, frames: usize) -> Tally
-    requires { (steps < 4294967295) × (frames < 64) }
-    ensures { result ≡ called (tally steps objects frames) }
-{
-    Tally {
-        steps: steps + 1,
-        objects,
-        frames: frames + 1,
-    }
-}
-
-// The counts after a step that returned.
-fn after_return(steps: usize, objects: usize, frames: usize) -> Tally
-    requires { (steps < 4294967295) × (0 < frames) }
-    ensures { result ≡ returned (tally steps objects frames) }
-{
-    Tally {
-        steps: steps + 1,
-        objects,
-        frames: frames - 1,
-    }
-}
-
-// The counts after any other step.
-fn after_work(steps: usize, objects: usize, frames: usize) -> Tally
-    requires { steps < 4294967295 }
-    ensures { result ≡ worked (tally steps objects frames) }
-{
-    Tally {
-        steps: steps + 1,
-        objects,
-        frames,
+        self.add_step();
+        self
     }
 }
 
 // What a run answers; the value of an unfinished run is 65,535.
-#[derive(Clone, Copy)]
+#[derive(Clone, Copy, Debug, PartialEq, Eq)]
 pub struct RunAnswer {
     pub outcome: Outcome,
     pub steps: u32,
     pub value: u16,
     pub objects: u16,
-}
-
-// What the run question answers: the run's answer, or a refusal with its line.
-#[derive(Clone, Copy)]
-pub enum RunReply {
-    Ran { answer: RunAnswer },
-    Refused { reason: Reason, line: u32 },
 }

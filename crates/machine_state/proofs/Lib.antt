@@ -1,3 +1,2 @@
-pub mod AddressLaws
 pub mod HeldLaws
 pub mod ObjectLaws

@@ -32,9 +32,6 @@ pub record Keeping (w₀ : List ℕ) (f p o count : ℕ) (w : List ℕ) (k : ℕ
   pub only : Only (kept_address o 0) (field_address o 0) w₀ w
   pub values : (i : ℕ) → i < k → cell w (kept_address o i) ≡ cell w₀ (slot_address f (get_or (new_slots w₀ p) i 0))
 
-pub Keeping-start : (w : List ℕ) (f p o count : ℕ) → Keeping w f p o count w 0
-Keeping-start w f p o count = record { within = omega arith; only = Only-refl _ _ w; values = λ i h. absurd (omega arith) }
-
 module _ (w₀ : List ℕ) (f p o count : ℕ) (a : Keepable w₀ f p o count) (w : List ℕ) (k : ℕ) (s : Keeping w₀ f p o count w k) where
   slots_are : new_slots w p ≡ new_slots w₀ p
   slots_are = new_slots_same w₀ w (only→same _ _ w₀ w (omega arith) s.only) p
@@ -49,9 +46,6 @@ module _ (w₀ : List ℕ) (f p o count : ℕ) (a : Keepable w₀ f p o count) (
   pub value_asks : k < count → (n v : ℕ) → n ≡ get_or (new_slots w p) k 0 → v ≡ n → (f < 64) × (v < 44) × (work_size ≤ length w)
   value_asks l n v en ev =
       (a.frame, omega (arith, en, ev, ap (λ (xs : List ℕ). get_or xs k 0) slots_are, a.slots k (omega (arith, a.counted))), long)
-
-  pub keep_asks : k < count → (o < 256) × (k < 8) × (work_size ≤ length w)
-  keep_asks l = (a.object, omega (arith, a.few), long)
 
   pub Keeping-next : k < count → (n v x : ℕ) (w' : List ℕ) → n ≡ get_or (new_slots w p) k 0 → v ≡ n → x ≡ cell w (slot_address f v) → w' ≡ set w (kept_address o k) x
       → Keeping w₀ f p o count w' (k + 1)
@@ -77,9 +71,6 @@ module _ (w₀ : List ℕ) (f p o count : ℕ) (a : Keepable w₀ f p o count) (
           ∙ value
           ∙ ap (λ (y : ℕ). cell w₀ (slot_address f (get_or (new_slots w₀ p) y 0))) (sym e)
 
-  pub keeping_end : count ≤ k → KeptFrom w₀ f p o w
-  keeping_end l = record { only = s.only; values = λ i h. s.values i (omega (arith, a.counted)) }
-
 -- THE FIELDS
 
 -- nothing but the object's fields is changed
@@ -93,36 +84,12 @@ unfolding fields_started
 started_only w o [] i = Only-refl (field_address o 0) (object_address o + 17) w
 started_only w o (p ∷ ps) i = Only-trans (part_only w o p i) (started_only (start_put w o p i) o ps (start_count p i))
 
--- the two kinds of part, as the accessor tells them
-
-module _ (w : List ℕ) (g o j i : ℕ) (r : PartPlace) (told : part_told w r ≡ part_in w g j) where
-  init_is : (k : ℕ) → r ≡ PartPlace.Init k → init k ≡ part_in w g j
-  init_is k e = ap (part_told w) (sym e) ∙ told
-
-  pub kept_small : PartStarts w g o j i → (k v : ℕ) → r ≡ PartPlace.Init k → v ≡ k → v < 8
-  kept_small a k v e ev = omega (arith, ev, a.kept k (sym (init_is k e)))
-
-  pub init_started : (k v x : ℕ) (w' : List ℕ) → r ≡ PartPlace.Init k → v ≡ k → x ≡ cell w (kept_address o v) → w' ≡ set w (field_address o i) x
-      → (i + 1 ≡ start_count (part_in w g j) i) × (w' ≡ start_put w o (part_in w g j) i)
-  init_started k v x w' e ev ex ew = (
-    ap (λ (p : Part). start_count p i) (init_is k e),
-    ew ∙ ap (set w (field_address o i)) (ex ∙ ap (λ (y : ℕ). cell w (kept_address o y)) ev) ∙ ap (λ (p : Part). start_put w o p i) (init_is k e),
-  )
-
-  pub body_started : (start count : ℕ) → r ≡ PartPlace.Body start count → (i ≡ start_count (part_in w g j) i) × (w ≡ start_put w o (part_in w g j) i)
-  body_started start count e =
-      let b : body (instrs_in w start count) ≡ part_in w g j = ap (part_told w) (sym e) ∙ told in
-      (ap (λ (p : Part). start_count p i) b, ap (λ (p : Part). start_put w o p i) b)
-
 -- w is w₀ with the first j parts done, i of them fields: doing the rest leaves what doing all of them does
 pub record Starting (w₀ : List ℕ) (g o count : ℕ) (w : List ℕ) (i j : ℕ) : Type 0 where
   pub within : j ≤ count
   pub few : i ≤ j
   pub only : Only (field_address o 0) (object_address o + 17) w₀ w
   pub rest : fields_started w o (drop j (parts_in w₀ g count)) i ≡ fields_started w₀ o (parts_in w₀ g count) 0
-
-pub Starting-start : (w : List ℕ) (g o count : ℕ) → Starting w g o count w 0 0
-Starting-start w g o count = record { within = omega arith; few = omega arith; only = Only-refl _ _ w; rest = refl }
 
 fields_most : (p : Part) (j i : ℕ) → i ≤ j → start_count p i ≤ j + 1
 fields_most (init k) j i h = omega arith

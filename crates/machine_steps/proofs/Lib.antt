@@ -3,5 +3,4 @@ pub mod FacingLaws
 pub mod NewLaws
 pub mod OwnLaws
 pub mod ReturnLaws
-pub mod EnterLaws
 pub mod CallLaws

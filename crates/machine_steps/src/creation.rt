@@ -8,7 +8,7 @@ ghost use Rattle.table.specs.Told.{new_slots};
 ghost use Rattle.machine_steps.specs.Running.{Facing, Took};
 ghost use Rattle.machine_steps.specs.Created.{Keepable, KeptFrom, PartStarts, FormStarts, start_put, start_count, fields_started};
 
-use crate::{fill_slot, frame_of};
+use crate::{KEEP_LIMIT, MEMBER_LIMIT, fill_slot, frame_of};
 use machine_rules::Tally;
 use machine_state::{Top, kept, narrow, put_field, put_form, put_kept, slot};
 use table::forms::{PartPlace, keeps_of, part, part_count};
@@ -20,15 +20,12 @@ fn keep_values(work: &mut [u16], f: usize, p: usize, o: usize, count: usize)
     requires { Keepable work.old f p o count }
     ensures { KeptFrom work.old f p o work.new }
 {
-    let mut k: usize = 0;
-    // A bound that the compiler knows, so that it unrolls the loop.
-    while k < 8 {
+    for k in 0..KEEP_LIMIT {
         if count <= k {
             return;
         }
         let value = slot(work, f, wide(slot_named(work, p, k)));
         put_kept(work, o, k, value);
-        k = k + 1;
     }
 }
 
@@ -55,13 +52,11 @@ fn start_fields(work: &mut [u16], form: usize, o: usize)
 {
     let count = part_count(work, form);
     let mut fields: usize = 0;
-    let mut j: usize = 0;
-    while j < 8 {
+    for j in 0..MEMBER_LIMIT {
         if count <= j {
             return;
         }
         fields = start_field(work, form, o, j, fields);
-        j = j + 1;
     }
 }
 

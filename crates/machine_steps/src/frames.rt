@@ -6,7 +6,7 @@ ghost use Rattle.table.specs.Layout.{work_size};
 ghost use Rattle.machine_steps.specs.Entered.{KeptCopied, Entered};
 ghost use Rattle.machine_steps.specs.Running.{Running, Facing, Took};
 
-use crate::frame_of;
+use crate::{KEEP_LIMIT, frame_of};
 use machine_rules::Tally;
 use machine_state::{Top, form_of, kept, put_slot, restore, save, slot};
 use table::rows::wide;
@@ -21,10 +21,8 @@ pub fn return_step(work: &mut [u16], top: Top, tally: Tally) -> Top
     let below = restore(work, f - 1);
     put_slot(work, f - 1, below.filled, value);
     Top {
-        own: below.own,
         filled: below.filled + 1,
-        next: below.next,
-        end: below.end,
+        ..below
     }
 }
 
@@ -33,15 +31,12 @@ fn copy_kept(work: &mut [u16], f: usize, o: usize, count: usize)
     requires { (f < 64) × (o < 256) × (count ≤ 8) × (work_size ≤ length work.old) }
     ensures { KeptCopied work.old work.new f o count }
 {
-    let mut i: usize = 0;
-    // A bound that the compiler knows, so that it unrolls the loop.
-    while i < 8 {
+    for i in 0..KEEP_LIMIT {
         if count <= i {
             return;
         }
         let value = kept(work, o, i);
         put_slot(work, f, 2 + i, value);
-        i = i + 1;
     }
 }
 
@@ -72,10 +67,8 @@ pub fn call_step(work: &mut [u16], top: Top, tally: Tally, v: usize, n: usize, a
         work,
         f,
         Top {
-            own: top.own,
-            filled: top.filled,
             next: top.next + 1,
-            end: top.end,
+            ..top
         },
     );
     enter(work, f + 1, own, argument, count);

@@ -15,6 +15,12 @@ use machine_state::{Top, field, form_of, put_field, put_slot, slot};
 pub mod creation;
 pub mod frames;
 
+// A form keeps at most 8 values, and its row has at most 8 members. The loops over them go up to these, so that the compiler can
+// unroll them.
+const KEEP_LIMIT: usize = 8;
+
+const MEMBER_LIMIT: usize = 8;
+
 // The number of the frame in hand.
 fn frame_of(tally: Tally) -> usize
     requires { 1 ≤ tally.frames }
@@ -30,10 +36,9 @@ fn fill_slot(work: &mut [u16], f: usize, top: Top, v: u16) -> Top
 {
     put_slot(work, f, top.filled, v);
     Top {
-        own: top.own,
         filled: top.filled + 1,
         next: top.next + 1,
-        end: top.end,
+        ..top
     }
 }
 

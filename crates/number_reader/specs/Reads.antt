@@ -7,18 +7,19 @@ use Rattle.sheet_rules.specs.DeviceLines.{read_device_lines}
 use Rattle.table.specs.Layout.{device_count_at, row_address, keep_address, part_address}
 use Rattle.table.specs.View.{cell, devices_in}
 use Rattle.line_reader.specs.declared.Cursor.{Cursor}
-use Rattle.line_reader.specs.declared.LineTaken.{LineTaken}
-use Rattle.line_reader.specs.declared.Progress.{Progress}
+use Rattle.line_reader.specs.declared.TakenLine.{TakenLine}
 use Rattle.line_reader.specs.Told.{read_from, number, line_read, Tells}
 use Rattle.reader_loop.specs.Items.{ItemRead, Items, ItemsRead}
 use Rattle.number_reader.specs.declared.Listed.{Listed}
+use Rattle.std.specs.declared.result.Result.{Result}
+use Rattle.sheet_rules.specs.declared.Refusal.{Refusal}
 
 -- a place whose lines have one number, of something that is there
 abbrev pub Existing : Place → Type 0
-Existing k = (bound : ℕ) (text : List ℕ) (c : Cursor) (p : LineTaken) → Tells k bound text c p → line_read text number p ≡ read_from text c (one (existing_line k bound))
+Existing k = (bound : ℕ) (text : List ℕ) (c : Cursor) (p : Result TakenLine Refusal) → Tells k bound text c p → line_read text number p ≡ read_from text c (one (existing_line k bound))
 
 -- number j of a list, read
-abbrev pub NumberRead : List ℕ → Listed → (j : ℕ) → Cursor → (w w' : List ℕ) → Progress → Type 0
+abbrev pub NumberRead : List ℕ → Listed → (j : ℕ) → Cursor → (w w' : List ℕ) → Result Cursor Refusal → Type 0
 NumberRead text l j from w w' r =
     ItemRead text (one (existing_line l.wanted l.bound)) (λ x. cell x (l.at + j)) (λ x. from.used) (l.at + j) (l.at + j + 1) from w w' r
 
@@ -34,7 +35,7 @@ number_items l used =
     }
 
 -- all numbers of a list, read
-abbrev pub NumbersRead : List ℕ → Listed → Cursor → (w w' : List ℕ) → Progress → Type 0
+abbrev pub NumbersRead : List ℕ → Listed → Cursor → (w w' : List ℕ) → Result Cursor Refusal → Type 0
 NumbersRead text l from w w' r = ItemsRead text (number_items l from.used) l.count from w w' r
 
 -- the kept rows of form f, read after `used` instructions
@@ -49,10 +50,10 @@ keep_items f rows used =
     }
 
 -- all kept rows of a form, read
-abbrev pub KeepsRead : List ℕ → (f count rows : ℕ) → Cursor → (w w' : List ℕ) → Progress → Type 0
+abbrev pub KeepsRead : List ℕ → (f count rows : ℕ) → Cursor → (w w' : List ℕ) → Result Cursor Refusal → Type 0
 KeepsRead text f count rows from w w' r = ItemsRead text (keep_items f rows from.used) count from w w' r
 
 -- the devices, read from the `devices` line on: their count, and their forms
-abbrev pub DevicesRead : List ℕ → (forms : ℕ) → Cursor → (w w' : List ℕ) → Progress → Type 0
+abbrev pub DevicesRead : List ℕ → (forms : ℕ) → Cursor → (w w' : List ℕ) → Result Cursor Refusal → Type 0
 DevicesRead text forms from w w' r =
     ItemRead text (read_device_lines forms) (λ x. devices_in x (cell x device_count_at)) (λ x. from.used) device_count_at (row_address 0) from w w' r

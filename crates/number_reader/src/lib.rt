@@ -6,12 +6,12 @@ ghost use Rattle.number_reader.specs.Reads.{Existing, NumberRead, NumbersRead, K
 ghost use Rattle.line_reader.specs.Told.{Room};
 ghost use Rattle.table.specs.Layout.{work_size};
 
-use line_reader::{Cursor, LineTaken, Progress};
-use sheet_rules::Place;
+use line_reader::Cursor;
+use sheet_rules::{Place, Refusal};
 use table::rows::wide;
 
 // A list of such lines: their place, how many of the things there are, where in the buffer the first number goes, and how many lines.
-#[derive(Clone, Copy)]
+#[derive(Clone, Copy, Debug, PartialEq, Eq)]
 pub struct Listed {
     pub wanted: Place,
     pub bound: u16,
@@ -20,35 +20,36 @@ pub struct Listed {
 }
 
 // One number, stored j places after the first.
-fn read_number(text: &[u8], work: &mut [u16], list: Listed, j: usize, from: Cursor) -> Progress
+fn read_number(
+    text: &[u8],
+    work: &mut [u16],
+    list: Listed,
+    j: usize,
+    from: Cursor,
+) -> Result<Cursor, Refusal>
     requires { Room text.now from × Existing list.wanted × (list.at + j < length work.old) }
     ensures { NumberRead text.now list j from work.old work.new result }
 {
-    let wanted = list.wanted;
-    let read = line_reader::take_line(text, from, wanted, list.bound as u32);
-    let LineTaken::Line { place: _, ns, next } = read else {
-        return line_reader::stopped(read);
-    };
-    table::put(work, list.at + j, ns.n0);
-    Progress::Moved { to: next }
+    let line = line_reader::take_line(text, from, list.wanted, list.bound as u32)?;
+    table::put(work, list.at + j, line.numbers.values[0]);
+    Ok(line.next)
 }
 
 // The numbers of a list.
-fn read_numbers(text: &[u8], work: &mut [u16], list: Listed, from: Cursor) -> Progress
+fn read_numbers(
+    text: &[u8],
+    work: &mut [u16],
+    list: Listed,
+    from: Cursor,
+) -> Result<Cursor, Refusal>
     requires { Room text.now from × Existing list.wanted × (list.at + list.count ≤ length work.old) }
     ensures { NumbersRead text.now list from work.old work.new result }
 {
-    let mut j = 0;
     let mut here = from;
-    while j < list.count {
-        let r = read_number(text, work, list, j, here);
-        let Progress::Moved { to } = r else {
-            return r;
-        };
-        here = to;
-        j = j + 1;
+    for j in 0..list.count {
+        here = read_number(text, work, list, j, here)?;
     }
-    Progress::Moved { to: here }
+    Ok(here)
 }
 
 // The kept rows of form f, as many as its `form` line says, in a sheet of `rows` rows.
@@ -59,7 +60,7 @@ pub fn read_keeps(
     count: usize,
     rows: u16,
     from: Cursor,
-) -> Progress
+) -> Result<Cursor, Refusal>
     requires { Room text.now from × (f < 64) × (count ≤ 8) × (work_size ≤ length work.old) }
     ensures { KeepsRead text.now f count rows from work.old work.new result }
 {
@@ -73,20 +74,23 @@ pub fn read_keeps(
 }
 
 // The devices, from the `devices` line on, in a sheet of `forms` forms.
-pub fn read_devices(text: &[u8], work: &mut [u16], forms: u16, from: Cursor) -> Progress
+pub fn read_devices(
+    text: &[u8],
+    work: &mut [u16],
+    forms: u16,
+    from: Cursor,
+) -> Result<Cursor, Refusal>
     requires { Room text.now from × (work_size ≤ length work.old) }
     ensures { DevicesRead text.now forms from work.old work.new result }
 {
-    let head = line_reader::take_line(text, from, Place::Devices, 0);
-    let LineTaken::Line { place: _, ns, next } = head else {
-        return line_reader::stopped(head);
-    };
-    table::devices::put_device_count(work, ns.n0);
+    let head = line_reader::take_line(text, from, Place::Devices, 0)?;
+    let count = head.numbers.values[0];
+    table::devices::put_device_count(work, count);
     let list = Listed {
         wanted: Place::Device,
         bound: forms,
         at: table::devices::device_address(),
-        count: wide(ns.n0),
+        count: wide(count),
     };
-    read_numbers(text, work, list, next)
+    read_numbers(text, work, list, head.next)
 }

@@ -8,14 +8,16 @@ use Rattle.table.specs.Layout.{part_address, table_end}
 use Rattle.table.specs.View.{part_in}
 use Rattle.table.specs.Pool.{OnlyFrom, part_end}
 use Rattle.line_reader.specs.declared.Cursor.{Cursor}
-use Rattle.line_reader.specs.declared.Progress.{Progress}
 use Rattle.reader_loop.specs.Items.{ItemRead}
+use Rattle.std.specs.declared.result.Result.{Result}
+use Rattle.std.specs.declared.result.Result.TheVariants.{Ok}
+use Rattle.sheet_rules.specs.declared.Refusal.{Refusal}
 
 -- part j of form f, read by a reader of parts: its instructions are the next of the pool
-pub record PartRead (text : List ℕ) (f j : ℕ) (part : Reader Part) (from : Cursor) (w w' : List ℕ) (r : Progress) : Type 0 where
+pub record PartRead (text : List ℕ) (f j : ℕ) (part : Reader Part) (from : Cursor) (w w' : List ℕ) (r : Result Cursor Refusal) : Type 0 where
   pub read : ItemRead text part (λ x. part_in x f j) (λ x. from.used + size_of_part (part_in x f j)) (part_address f j) table_end from w w' r
   pub pool : OnlyFrom (part_address f j) from.used w w'
-  pub ends : (to : Cursor) → r ≡ Progress.Moved to → part_end w' f j ≤ to.used
+  pub ends : (to : Cursor) → r ≡ Ok to → part_end w' f j ≤ to.used
 
 -- the rule's reader of a part, for a field
 unfoldable pub field_part : ℕ → Reader Part

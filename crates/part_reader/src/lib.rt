@@ -7,35 +7,41 @@ ghost use Rattle.line_reader.specs.Told.{Room};
 ghost use Rattle.table.specs.Layout.{work_size};
 ghost use Rattle.part_reader.specs.Reads.{PartRead, field_part, method_part, body_rest};
 
-use line_reader::{Cursor, LineTaken, Progress};
-use sheet_rules::{Member, Place};
+use line_reader::Cursor;
+use sheet_rules::{Member, Place, Refusal};
 use table::rows::wide;
 
 // Which part is read: part j of form f, which keeps `keeps` values, in a sheet of `forms` forms.
-#[derive(Clone, Copy)]
+#[derive(Clone, Copy, Debug, PartialEq, Eq)]
 pub struct PartAt {
     pub f: usize,
     pub j: usize,
     pub keeps: u16,
     pub forms: u16,
+    pub ghost form: { f < 64 },
+    pub ghost part: { j < 8 },
+    pub ghost few: { keeps ≤ 8 },
 }
 
 // A part for a field: which of the form's kept values it starts as.
-fn read_field(text: &[u8], work: &mut [u16], part: PartAt, from: Cursor) -> Progress
-    requires { Room text.now from × (part.f < 64) × (part.j < 8) × (work_size ≤ length work.old) }
+fn read_field(text: &[u8], work: &mut [u16], part: PartAt, from: Cursor) -> Result<Cursor, Refusal>
+    requires { Room text.now from × (work_size ≤ length work.old) }
     ensures { PartRead text.now part.f part.j (field_part part.keeps) from work.old work.new result }
 {
-    let read = line_reader::take_line(text, from, Place::Init, part.keeps as u32);
-    let LineTaken::Line { place: _, ns, next } = read else {
-        return line_reader::stopped(read);
-    };
-    table::stores::put_part(work, part.f, part.j, 0, ns.n0, 0);
-    Progress::Moved { to: next }
+    let line = line_reader::take_line(text, from, Place::Init, part.keeps as u32)?;
+    table::stores::put_part(work, part.f, part.j, 0, line.numbers.values[0], 0);
+    Ok(line.next)
 }
 
 // Stores a body of `count` instructions as the part, and reads them into the pool.
-fn keep_body(text: &[u8], work: &mut [u16], part: PartAt, count: u16, from: Cursor) -> Progress
-    requires { Room text.now from × (part.f < 64) × (part.j < 8) × (part.keeps ≤ 8) × (1 ≤ count) × (from.used + count ≤ 1024) × (work_size ≤ length work.old) }
+fn keep_body(
+    text: &[u8],
+    work: &mut [u16],
+    part: PartAt,
+    count: u16,
+    from: Cursor,
+) -> Result<Cursor, Refusal>
+    requires { Room text.now from × (1 ≤ count) × (from.used + count ≤ 1024) × (work_size ≤ length work.old) }
     ensures { PartRead text.now part.f part.j (body_rest part.forms part.keeps count) from work.old work.new result }
 {
     table::stores::put_part(work, part.f, part.j, 1, from.used, count);
@@ -43,15 +49,12 @@ fn keep_body(text: &[u8], work: &mut [u16], part: PartAt, count: u16, from: Curs
 }
 
 // A part for a method: its body.
-fn read_method(text: &[u8], work: &mut [u16], part: PartAt, from: Cursor) -> Progress
-    requires { Room text.now from × (part.f < 64) × (part.j < 8) × (part.keeps ≤ 8) × (work_size ≤ length work.old) }
+fn read_method(text: &[u8], work: &mut [u16], part: PartAt, from: Cursor) -> Result<Cursor, Refusal>
+    requires { Room text.now from × (work_size ≤ length work.old) }
     ensures { PartRead text.now part.f part.j (method_part part.forms part.keeps from.used) from work.old work.new result }
 {
-    let read = line_reader::take_line(text, from, Place::Body, from.used as u32);
-    let LineTaken::Line { place: _, ns, next } = read else {
-        return line_reader::stopped(read);
-    };
-    keep_body(text, work, part, ns.n0, next)
+    let head = line_reader::take_line(text, from, Place::Body, from.used as u32)?;
+    keep_body(text, work, part, head.numbers.values[0], head.next)
 }
 
 // A part, for a member of its form's row.
@@ -61,8 +64,8 @@ pub fn read_part(
     part: PartAt,
     member: Member,
     from: Cursor,
-) -> Progress
-    requires { Room text.now from × (part.f < 64) × (part.j < 8) × (part.keeps ≤ 8) × (work_size ≤ length work.old) }
+) -> Result<Cursor, Refusal>
+    requires { Room text.now from × (work_size ≤ length work.old) }
     ensures { PartRead text.now part.f part.j (read_part part.forms part.keeps from.used member) from work.old work.new result }
 {
     match member {

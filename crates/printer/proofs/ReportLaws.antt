@@ -17,7 +17,11 @@ use Rattle.machine_rules.specs.State.{State}
 use Rattle.machine_rules.specs.Steps.{run}
 use Rattle.machine_rules.proofs.StepsLaws.{run-Ends}
 use Rattle.machine_rules.proofs.SoundLaws.{accepted_sound}
-use Rattle.authority_rules.specs.declared.ReportReply.{ReportReply}
+use Rattle.sheet_rules.specs.Answers.{turned_away}
+use Rattle.authority_rules.specs.declared.Reported.{Reported}
+use Rattle.sheet_rules.specs.declared.Refusal.{Refusal}
+use Rattle.std.specs.declared.result.Result.TheVariants.{Ok, Err}
+use Rattle.std.specs.declared.result.Result.{Result}
 use Rattle.authority_rules.specs.Authority.{is_resource, holds, authority}
 use Rattle.authority_rules.specs.Report.{Holding, holding_of, holders, holdings, Report, reported, not_reported, report_of, report}
 use Rattle.table.specs.Layout.{work_size}
@@ -27,10 +31,10 @@ use Rattle.authority.specs.Every.{entries, every_size}
 use Rattle.lists.proofs.PassingLaws.{passing_few}
 use Rattle.authority.proofs.PutLaws.{entries_few}
 use Rattle.question.specs.Asked.{enough, Asked}
-use Rattle.authority_question.specs.Asked.{report_reply, report_numbers}
+use Rattle.authority_question.specs.Asked.{report_reply, report_numbers, with_count}
 
 -- the buffers are long enough
-module _ (text : List ℕ) (budget : ℕ) (short : ReportReply) (w numbers w' numbers' : List ℕ) (r : ReportReply) (h : work_size ≤ length w) (l : every_size ≤ length numbers)
+module _ (text : List ℕ) (budget : ℕ) (short : Result Reported Refusal) (w numbers w' numbers' : List ℕ) (r : Result Reported Refusal) (h : work_size ≤ length w) (l : every_size ≤ length numbers)
     (k : Asked every_size (report_reply (report text budget)) short (report_numbers (report text budget)) w numbers w' numbers' r) where
   yes : enough every_size w numbers ≡ true
   yes i = le-leb work_size (length w) h i && le-leb every_size (length numbers) l i
@@ -50,29 +54,29 @@ holdings_in (reported a hs) = hs
 holdings_in (not_reported q n) = []
 
 -- what a reply holds; a reply of the other kind has the default
-answer_in : RunAnswer → ReportReply → RunAnswer
-answer_in d (ReportReply.Reported a n) = a
-answer_in d (ReportReply.Refused q n) = d
+answer_in : RunAnswer → Result Reported Refusal → RunAnswer
+answer_in d (Ok x) = x.answer
+answer_in d (Err e) = d
 
-reason_in : Reason → ReportReply → Reason
-reason_in d (ReportReply.Reported a n) = d
-reason_in d (ReportReply.Refused q n) = q
+reason_in : Reason → Result Reported Refusal → Reason
+reason_in d (Ok x) = d
+reason_in d (Err e) = e.reason
 
-number_in : ReportReply → ℕ
-number_in (ReportReply.Reported a n) = n
-number_in (ReportReply.Refused q n) = n
+number_in : Result Reported Refusal → ℕ
+number_in (Ok x) = x.count
+number_in (Err e) = e.line
 
-is_reported : ReportReply → Bool
-is_reported (ReportReply.Reported a n) = true
-is_reported (ReportReply.Refused q n) = false
+is_reported : Result Reported Refusal → Bool
+is_reported (Ok x) = true
+is_reported (Err e) = false
 
 -- which report has the reply
-pub reported_is : (x : Report) (a : RunAnswer) (n : ℕ) → ReportReply.Reported a n ≡ report_reply x → (x ≡ reported a (holdings_in x)) × (n ≡ length (entries (holdings_in x)))
+pub reported_is : (x : Report) (a : RunAnswer) (n : ℕ) → ◌≡◌ {A = Result Reported Refusal} (Ok (with_count a n)) (report_reply x) → (x ≡ reported a (holdings_in x)) × (n ≡ length (entries (holdings_in x)))
 unfolding answer_in number_in is_reported
-reported_is (reported b hs) a n e = (ap (λ (y : ReportReply). reported (answer_in a y) hs) (sym e), ap number_in e)
+reported_is (reported b hs) a n e = (ap (λ (y : Result Reported Refusal). reported (answer_in a y) hs) (sym e), ap number_in e)
 reported_is (not_reported q l) a n e = absurd (subst T (ap is_reported e) tt)
 
-pub refused_is : (x : Report) (q : Reason) (n : ℕ) → ReportReply.Refused q n ≡ report_reply x → x ≡ not_reported q n
+pub refused_is : (x : Report) (q : Reason) (n : ℕ) → ◌≡◌ {A = Result Reported Refusal} (turned_away q n) (report_reply x) → x ≡ not_reported q n
 unfolding reason_in number_in is_reported
 refused_is (reported b hs) q n e = absurd (subst T (sym (ap is_reported e)) tt)
 refused_is (not_reported p l) q n e = (λ i. not_reported (reason_in q (sym e i)) (number_in (sym e i)))

@@ -8,7 +8,6 @@ ghost use Rattle.printer.specs.Printed.{print_size, ReportPrinted};
 
 use crate::put_holder;
 use authority_question::report::ask_report;
-use authority_rules::ReportReply;
 use line_writer::put_line;
 use machine_rules::RunAnswer;
 use results::numbers::{number_of, outcome_number};
@@ -28,8 +27,7 @@ fn put_run(out: &mut [u8], at: usize, answer: RunAnswer) -> usize
     requires { at + 53 ≤ length out.old }
     ensures { Put 53 at (run_lines answer) out.old out.new result }
 {
-    let outcome = answer.outcome;
-    let a = put_line(out, at, b"outcome=", outcome_number(outcome));
+    let a = put_line(out, at, b"outcome=", outcome_number(answer.outcome));
     let b = put_line(out, a, b"steps=", answer.steps);
     put_line(out, b, b"value=", answer.value as u32)
 }
@@ -47,17 +45,18 @@ pub fn print_report(
 {
     let reply = ask_report(text, budget, work, numbers);
     match reply {
-        ReportReply::Reported { answer, count } => {
+        Ok(reported) => {
             let head = put_verdict(out, 0, 0);
-            let mut at = put_run(out, head, answer);
-            let end = count as usize;
+            let mut at = put_run(out, head, reported.answer);
+            let end = reported.count as usize;
             let mut from: usize = 0;
+            // An entry is as long as it says, so the next place comes from the entry itself.
             while from < end {
                 at = put_holder(out, at, numbers, from);
-                from = from + 2 + wide(numbers[from + 1]);
+                from += 2 + wide(numbers[from + 1]);
             }
             at
         }
-        ReportReply::Refused { reason, line } => put_verdict(out, number_of(reason), line),
+        Err(refusal) => put_verdict(out, number_of(refusal.reason), refusal.line),
     }
 }

@@ -1,62 +1,73 @@
--- A question's exits: a buffer that is too short, and a reply after which the work buffer is cleared. Assumes nothing.
-use Prim.Native.Nat.{ℕ, ◌≤◌}
-use native.Mathlib.Omega.{arith}
-use mathlib.Core.Path.{◌≡◌, refl, sym, ap, ◌∙◌}
-use mathlib.Core.Bool.{Bool, true, false, not, cond, ◌&&◌}
-use mathlib.Core.List.{List}
-use lib.Dec.{T, leb}
-use lib.ListN.{length}
-use borrow.Author.Tests.{leb-true, not-true, not-false}
+-- What a question that is asked by `ask` or `ask_into` promises. Assumes nothing.
+use Rattle.std.proofs.Common.{ℕ, ◌+◌, ◌<◌, ◌≤◌, ◌≡◌, refl, sym, ap, ◌∙◌, subst, arith, ◌-◌, leb, ◌&&◌, Bool, true, false, cond, List, ◌++◌, length, drop, replicate, length-drop, get_or-drop, ext_get_or, MutBor}
+use Rattle.std.proofs.lemmas.Bool.{le-leb, lt-leb}
+use native.Mathlib.Decide.{dec_le}
+use Rattle.std.specs.Fn.{Once, FnOnceReturnsAtMut}
 use Rattle.lists.specs.PutAt.{begun}
-use Rattle.lists.proofs.Tests.{and_left, and_right, T→true, true→T}
 use Rattle.table.specs.Layout.{work_size}
+use Rattle.table.specs.Only.{Only}
 use Rattle.question.specs.Cleared.{cleared}
-use Rattle.question.specs.Asked.{Told, enough, Asked}
-use Rattle.question.proofs.ClearLaws.{cleared_same}
+use Rattle.question.specs.Asked.{Told, enough, Asked, ToldAlone, AskedAlone, AnswersInto}
 
--- what a work buffer of n numbers and a result buffer of m hold, where the test is passed
-pub room : (n size m : ℕ) {b : Bool} → b ≡ (leb work_size n && leb size m) → not b ≡ false → (work_size ≤ n) × (size ≤ m)
-room n size m {b} e l = (leb-true work_size n (T→true _ (and_left (leb work_size n) (leb size m) t)), leb-true size m (T→true _ (and_right (leb work_size n) (leb size m) t)))
-  where
-    t : T (leb work_size n && leb size m)
-    t = true→T _ (sym e ∙ not-false b l)
+-- what stood in a work buffer has no influence on what it is once cleared
+pub cleared_same : (w w' : List ℕ) → Only 0 work_size w w' → cleared w' ≡ cleared w
+unfolding cleared
+cleared_same w w' o =
+    let same : drop work_size w' ≡ drop work_size w =
+    ext_get_or 0 _ _ (length-drop work_size w' ∙ ap (λ n. n - work_size) o.size ∙ sym (length-drop work_size w))
+    (λ i k. get_or-drop work_size w' i 0 ∙ o.above (work_size + i) (omega arith) ∙ sym (get_or-drop work_size w i 0)) in
+    ap (λ (t : List ℕ). replicate work_size 0 ++ t) same
 
-module _ {A B : Type 0} {size : ℕ} {reply short : A} {output : List B} {w : List ℕ} {result : List B} where
-  not_enough : enough size w result ≡ false → Asked size reply short output w result w result short
-  not_enough e =
+-- the promise, by what was asked
+module _ {A B : Type 0} {size : ℕ} {reply short : A} {output : List B} {w : List ℕ} {result : List B} {w' : List ℕ} {result' : List B} {r : A} where
+  turned : enough size w result ≡ false → (r ≡ short) × (w' ≡ w) × (result' ≡ result) → Asked size reply short output w result w' result' r
+  turned e t =
       record {
-        told = sym (ap (λ (x : Bool). cond x reply short) e);
-        written = sym (ap (λ (x : Bool). cond x (begun output result) result) e);
-        left = sym (ap (λ (x : Bool). cond x (cleared w) w) e);
+        told = t.0 ∙ sym (ap (λ (x : Bool). cond x reply short) e);
+        written = t.2 ∙ sym (ap (λ (x : Bool). cond x (begun output result) result) e);
+        left = t.1 ∙ sym (ap (λ (x : Bool). cond x (cleared w) w) e);
       }
 
-  -- b is what the test of the buffers' lengths answered
-  module _ {b : Bool} (e : b ≡ enough size w result) where
-    pub turned_away : not b ≡ true → Asked size reply short output w result w result short
-    turned_away n = not_enough (sym e ∙ not-true b n)
+  answered : enough size w result ≡ true → {w₁ : List ℕ} → Told reply output w result w₁ result' r → w' ≡ cleared w₁ → Asked size reply short output w result w' result' r
+  answered e {w₁} t c =
+      record {
+        told = t.same ∙ sym (ap (λ (x : Bool). cond x reply short) e);
+        written = t.written ∙ sym (ap (λ (x : Bool). cond x (begun output result) result) e);
+        left = c ∙ cleared_same w w₁ t.only ∙ sym (ap (λ (x : Bool). cond x (cleared w) w) e);
+      }
 
-    pub asked : not b ≡ false → {w₁ : List ℕ} {result' : List B} {r : A} → Told reply output w result w₁ result' r → {w' : List ℕ} → w' ≡ cleared w₁ → Asked size reply short output w result w' result' r
-    asked n {w₁} t x =
-        record {
-          told = t.same ∙ sym (ap (λ (y : Bool). cond y reply short) yes);
-          written = t.written ∙ sym (ap (λ (y : Bool). cond y (begun output result) result) yes);
-          left = x ∙ cleared_same w w₁ (room (length w) size (length result) e n).0 t.only ∙ sym (ap (λ (y : Bool). cond y (cleared w) w) yes);
-        }
-      where
-        yes : enough size w result ≡ true
-        yes = sym e ∙ not-false b n
+-- with a result buffer
+module _ {F A : Type 0} {g : Once F (MutBor (List ℕ) × (MutBor (List ℕ) × Unit {0})) (A × (MutBor (List ℕ) × (MutBor (List ℕ) × Unit {0})))} {f : F} {size : ℕ} {reply given short : A} {output w result w' result' : List ℕ} {r : A} where
+  pub asked_into : given ≡ short → (enough size w result ≡ false → (r ≡ given) × (w' ≡ w) × (result' ≡ result))
+      → (enough size w result ≡ true → (w₁ : List ℕ) × AnswersInto g f w result r w₁ result' × (w' ≡ cleared w₁))
+      → ((b c b' c' : MutBor (List ℕ)) (x : A) → g.post f (b, (c, tt)) (x, (b', (c', tt))) → Told reply output b.now c.now b'.now c'.now x)
+      → Asked size reply short output w result w' result' r
+  asked_into s less told each = go (enough size w result) refl
+    where
+      go : (b : Bool) → enough size w result ≡ b → Asked size reply short output w result w' result' r
+      go true e =
+          let t = told e in
+          let a = t.1 in
+          let h : Told reply output a.lent.0.now a.lent.1.now a.left.0.now a.left.1.now r = each a.lent.0 a.lent.1 a.left.0 a.left.1 r a.met in
+          answered e (subst (λ x. Told reply output x result t.0 result' r) a.lends.0 (subst (λ x. Told reply output a.lent.0.now x t.0 result' r) a.lends.1
+          (subst (λ x. Told reply output a.lent.0.now a.lent.1.now x result' r) a.leaves.0 (subst (λ x. Told reply output a.lent.0.now a.lent.1.now a.left.0.now x r) a.leaves.1 h)))) t.2
+      go false e = let l = less e in turned e (l.0 ∙ s, l.1, l.2)
 
--- the work buffer is as long after the reply
-pub still_room : {A B : Type 0} (size : ℕ) {reply : A} {output : List B} {w : List ℕ} {result : List B} {b : Bool} → b ≡ enough size w result → not b ≡ false
-    → {w₁ : List ℕ} {result' : List B} {r : A} → Told reply output w result w₁ result' r → work_size ≤ length w₁
-still_room size {w = w} {result = result} e n t = omega (arith, t.only.size, (room (length w) size (length result) e n).0)
-
--- the same reply in other words
-pub Asked-as : {A A' B : Type 0} (f : A → A') {size : ℕ} {reply short : A} {output : List B} {w : List ℕ} {result : List B} {w' : List ℕ} {result' : List B} {r : A} {x : A'}
-    → Asked size reply short output w result w' result' r → x ≡ f r → Asked size (f reply) (f short) output w result w' result' x
-Asked-as f {size} {reply} {short} {w = w} {result = result} k e =
-    record { told = e ∙ ap f k.told ∙ go (enough size w result); written = k.written; left = k.left }
-  where
-    go : (b : Bool) → f (cond b reply short) ≡ cond b (f reply) (f short)
-    go true = refl
-    go false = refl
+-- and without one
+module _ {F A : Type 0} {g : Once F (MutBor (List ℕ) × Unit {0}) (A × (MutBor (List ℕ) × Unit {0}))} {f : F} {reply given short : A} {w w' : List ℕ} {r : A} where
+  pub asked_alone : given ≡ short → (length w < work_size → (r ≡ given) × (w' ≡ w))
+      → (work_size ≤ length w → (w₁ : List ℕ) × FnOnceReturnsAtMut g f w r w₁ × (w' ≡ cleared w₁))
+      → ((b b' : MutBor (List ℕ)) (x : A) → g.post f (b, tt) (x, (b', tt)) → ToldAlone reply b.now b'.now x)
+      → AskedAlone reply short w w' r
+  asked_alone s less told each = go (dec_le work_size (length w))
+    where
+      go : Dec (work_size ≤ length w) → AskedAlone reply short w w' r
+      go (yes h) =
+          let t = told h in
+          let a = t.1 in
+          answered (ap (λ b. b && leb 0 0) (le-leb work_size (length w) h))
+          (subst (λ x. ToldAlone reply x t.0 r) a.shows (subst (λ x. ToldAlone reply a.shown.now x r) a.leaves (each a.shown a.left r a.met))) t.2
+      go (no h) =
+          let l : length w < work_size = omega (arith, h) in
+          let t = less l in
+          turned (ap (λ b. b && leb 0 0) (lt-leb work_size (length w) l)) (t.0 ∙ s, t.1, refl)

@@ -1,2 +1,2 @@
-pub mod ClearLaws
 pub mod AskedLaws
+pub mod ToldLaws

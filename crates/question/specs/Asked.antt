@@ -1,6 +1,8 @@
 -- What every question promises of its reply and its buffers (document 01, Turned away), for any type of replies and any element of
 -- the result. Stands on Cleared and on the table's layout.
 use Rattle.std.specs.Prelude.{ℕ, ◌≡◌, Bool, cond, ◌&&◌, List, [], leb, length}
+use Rattle.std.specs.Borrow.{MutBor}
+use Rattle.std.specs.Fn.{Once}
 use Rattle.lists.specs.PutAt.{begun}
 use Rattle.table.specs.Layout.{work_size}
 use Rattle.table.specs.Only.{Only}
@@ -31,3 +33,13 @@ ToldAlone reply w w' r = Told {B = ℕ} reply [] w [] w' [] r
 
 abbrev pub AskedAlone : {A : Type 0} → (reply short : A) → (w w' : List ℕ) → A → Type 0
 AskedAlone reply short w w' r = Asked {B = ℕ} 0 reply short [] w [] w' [] r
+
+-- HOW IT IS ASKED
+
+-- a call of f that is lent two buffers may answer r: their content before it, and after
+pub record AnswersInto {F A : Type 0} (g : Once F (MutBor (List ℕ) × (MutBor (List ℕ) × Unit {0})) (A × (MutBor (List ℕ) × (MutBor (List ℕ) × Unit {0})))) (f : F) (w result : List ℕ) (r : A) (w' result' : List ℕ) : Type 0 where
+  pub lent : MutBor (List ℕ) × MutBor (List ℕ)
+  pub lends : (lent.0.now ≡ w) × (lent.1.now ≡ result)
+  pub left : MutBor (List ℕ) × MutBor (List ℕ)
+  pub met : g.post f (lent.0, (lent.1, tt)) (r, (left.0, (left.1, tt)))
+  pub leaves : (left.0.now ≡ w') × (left.1.now ≡ result')

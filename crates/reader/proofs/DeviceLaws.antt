@@ -11,7 +11,6 @@ use Rattle.lists.specs.Tab.{tab}
 use Rattle.lists.proofs.TabLaws.{length-tab, tab_ext}
 use Rattle.lists.proofs.Tests.{clash}
 use Rattle.sheet_rules.specs.declared.Place.{Place}
-use Rattle.sheet_rules.specs.declared.Reason.{Reason}
 use Rattle.sheet_rules.specs.declared.Reason.TheVariants.{Malformed}
 use Rattle.sheet_rules.specs.declared.Verdict.{Verdict}
 use Rattle.sheet_rules.specs.Limits.{device_limit}
@@ -31,14 +30,18 @@ use Rattle.table.proofs.ViewLaws.{Only-trans, Only-widen, Only-set}
 use Rattle.lexer.proofs.LineLaws.{Refusing}
 use Rattle.line_judges.proofs.StrictLaws.{Strict-count, Strict-body, one-Refusing}
 use Rattle.line_reader.specs.declared.Cursor.{Cursor}
-use Rattle.line_reader.specs.declared.Progress.{Progress}
 use Rattle.line_reader.specs.Told.{Room, NextTold, read_from, got_at, read_told}
 use Rattle.reader_loop.proofs.LoopLaws.{Moved-on}
 use Rattle.reader_loop.proofs.ThenLaws.{then_stop, Moved-then, moved_stop}
 use Rattle.number_reader.specs.Reads.{DevicesRead}
 use Rattle.form_reader.specs.Reads.{FormsUsed}
-use Rattle.reader.specs.Reads.{progress_verdict, instrs_rest, main_rest, devices_rest, RestRead}
+use Rattle.reader.specs.Reads.{instrs_rest, main_rest, devices_rest, RestRead}
 use Rattle.reader.proofs.MainLaws.{counts_row, counts_form, counts_ends, refused_by, rest_refused}
+use Rattle.std.specs.declared.result.Result.{Result}
+use Rattle.std.specs.declared.result.Result.TheVariants.{Ok, Err}
+use Rattle.sheet_rules.specs.declared.Refusal.{Refusal}
+use Rattle.sheet_rules.specs.Answers.{verdict_from}
+use Rattle.line_reader.proofs.ExitLaws.{Passes}
 
 -- WHETHER THERE ARE DEVICES
 
@@ -138,30 +141,30 @@ module _ (w : List ℕ) {w₁ : List ℕ} (stored : w₁ ≡ set w device_count_
       → {w' : List ℕ} {v : Verdict} → RestRead text (main_rest (rows_in w₁ rows) forms (forms_in w₁ forms) (devices_in w₁ (cell w₁ device_count_at))) from w₁ w' v
       → RestRead text (devices_rest (rows_in w rows) forms (forms_in w forms)) from w w' v
   unfolding tab
-  none_read size rows forms text from {b} told e k =
+  none_read size rows forms text from {b} asked e k =
       rest_read none_only rows forms text from from [] (ap (devices_in w₁) (none_counted size))
-      (rest_without (rows_in w rows) forms (forms_in w forms) text from told (not-true b e)) k
+      (rest_without (rows_in w rows) forms (forms_in w forms) text from asked (not-true b e)) k
 
 -- SOME DEVICES
 
 module _ (rows forms : ℕ) (text : List ℕ) (from : Cursor) (w : List ℕ) {b : Bool} (told : NextTold Place.Devices (lines_of (drop from.at text)) b) (there : not b ≡ false)
-    {w₁ : List ℕ} {r : Progress} (m : DevicesRead text forms from w w₁ r) where
-  pub some_refused : {q : Reason} {l : ℕ} → r ≡ Progress.Refused q l → {v : Verdict} → v ≡ progress_verdict r
-      → RestRead text (devices_rest (rows_in w rows) forms (forms_in w forms)) from w w₁ v
-  some_refused c cv =
-      rest_refused (refused_by c cv)
+    {w₁ : List ℕ} {r : Result Cursor Refusal} (m : DevicesRead text forms from w w₁ r) where
+  pub some_refused : {q : Refusal} → r ≡ Err q → (s : Result Unit Refusal) → Passes s q
+      → RestRead text (devices_rest (rows_in w rows) forms (forms_in w forms)) from w w₁ (verdict_from s)
+  some_refused c s h =
+      rest_refused (refused_by s h)
       (rest_with (rows_in w rows) forms (forms_in w forms) text from told (not-false b there)
       ∙ moved_stop text (main_rest (rows_in w rows) forms (forms_in w forms)) (devices_in w₁ (cell w₁ device_count_at)) m.told c)
       (Only-widen (omega arith) (omega arith) m.only)
 
-  module _ {to : Cursor} (moved : r ≡ Progress.Moved to) where
+  module _ {to : Cursor} (moved : r ≡ Ok to) where
     pub some_room : Room text to × (to.used ≡ from.used)
     some_room = let x = Moved-on moved m.advanced in (x.room, x.pool)
 
     pub some_few : cell w₁ device_count_at ≤ 8
     some_few =
         go (devices_in w₁ (cell w₁ device_count_at)) (length-tab (λ i. cell w₁ (device_address i)) (cell w₁ device_count_at))
-        (subst (Gives (WellFormedDevices forms)) (sym (ap (λ (x : Progress). read_told text x (devices_in w₁ (cell w₁ device_count_at))) (sym moved) ∙ m.told))
+        (subst (Gives (WellFormedDevices forms)) (sym (ap (λ (x : Result Cursor Refusal). read_told text x (devices_in w₁ (cell w₁ device_count_at))) (sym moved) ∙ m.told))
         (device_lines forms (lines_of (drop from.at text)) from.line))
       where
         go : (fs : List ℕ) → length fs ≡ cell w₁ device_count_at → Gives (WellFormedDevices forms) (got_at text to fs) → cell w₁ device_count_at ≤ 8

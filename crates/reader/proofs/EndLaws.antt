@@ -40,14 +40,12 @@ unfolding read_end lines_of split_on finished
 end_none n = refl
 
 pub at_end : (text : List ℕ) (at n : ℕ) → length text ≤ at → read_end (lines_of (drop at text)) n ≡ got tt [] n
-unfolding drop
 at_end [] zero n h = end_none n
 at_end [] (suc at) n h = end_none n
 at_end (b ∷ bs) zero n h = absurd (omega arith)
 at_end (b ∷ bs) (suc at) n h = at_end bs at n (omega arith)
 
 pub not_at_end : (text : List ℕ) (at n : ℕ) → at < length text → read_end (lines_of (drop at text)) n ≡ refused Malformed n
-unfolding drop
 not_at_end [] at n h = absurd (omega arith)
 not_at_end (b ∷ bs) zero n h = end_some b bs n
 not_at_end (b ∷ bs) (suc at) n h = not_at_end bs at n (omega arith)

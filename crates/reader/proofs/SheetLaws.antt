@@ -10,7 +10,6 @@ use borrow.Author.Tests.{le-leb, lt-leb}
 use Rattle.lists.proofs.TabLaws.{tab_ext}
 use Rattle.lists.proofs.Tests.{clash}
 use Rattle.sheet_rules.specs.declared.Place.{Place}
-use Rattle.sheet_rules.specs.declared.Reason.{Reason}
 use Rattle.sheet_rules.specs.declared.Reason.TheVariants.{BufferTooShort, TextTooLong}
 use Rattle.sheet_rules.specs.declared.Verdict.{Verdict}
 use Rattle.sheet_rules.specs.Limits.{text_limit}
@@ -30,43 +29,46 @@ use Rattle.table.specs.Only.{Only}
 use Rattle.table.specs.Ready.{Ready}
 use Rattle.table.proofs.ViewLaws.{Only-refl, Only-trans, Only-widen, row_same}
 use Rattle.table.proofs.RowLaws.{rows_ready, Ready-kept}
-use Rattle.lexer.specs.declared.Numbers.{Numbers}
 use Rattle.line_reader.specs.declared.Cursor.{Cursor}
-use Rattle.line_reader.specs.declared.LineTaken.{LineTaken}
-use Rattle.line_reader.specs.declared.Progress.{Progress}
-use Rattle.line_reader.specs.Told.{Room, read_from, got_at, number, LineTold, read_told, stopped_by}
+use Rattle.line_reader.specs.declared.TakenLine.{TakenLine}
+use Rattle.line_reader.specs.Told.{Room, read_from, got_at, number, LineTold, read_told}
 use Rattle.reader_loop.proofs.LoopLaws.{Moved-on}
 use Rattle.reader_loop.proofs.ThenLaws.{past, line_then, line_stop, line_gives, Moved-then, moved_stop}
 use Rattle.row_reader.specs.Reads.{RowsRead}
 use Rattle.form_reader.specs.Reads.{FormsUsed, FormsRead}
-use Rattle.reader.specs.Reads.{progress_verdict, text_start, verdict_means, end_rest, instrs_rest, main_rest, devices_rest, forms_rest, rows_rest, RestRead, SheetRead}
+use Rattle.reader.specs.Reads.{text_start, verdict_means, end_rest, instrs_rest, main_rest, devices_rest, forms_rest, rows_rest, RestRead, SheetRead}
 use Rattle.reader.proofs.MainLaws.{not_accepted, refused_by, rest_refused}
+use Rattle.std.specs.declared.result.Result.{Result}
+use Rattle.std.specs.declared.result.Result.TheVariants.{Ok, Err}
+use Rattle.sheet_rules.specs.declared.Refusal.{Refusal}
+use Rattle.sheet_rules.specs.Answers.{verdict_from}
+use Rattle.line_reader.proofs.ExitLaws.{Passes}
+use Rattle.sheet_rules.specs.Reader.{nth}
 
 -- FORMS, THEN DEVICES AND MAIN
 
-module _ {text : List ℕ} {rows : ℕ} {from : Cursor} {w : List ℕ} (ready : Ready rows w) {b : ℕ} {p : LineTaken} (told : LineTold Place.Forms b text from p) where
-  pub forms_line_refused : {q : Reason} {l : ℕ} → p ≡ LineTaken.Refused q l → {s : Progress} → s ≡ stopped_by p → {v : Verdict} → v ≡ progress_verdict s
-      → RestRead text (rows_rest (rows_in w rows)) from w w v
+module _ {text : List ℕ} {rows : ℕ} {from : Cursor} {w : List ℕ} (ready : Ready rows w) {b : ℕ} {p : Result TakenLine Refusal} (told : LineTold Place.Forms b text from p) where
+  pub forms_line_refused : {q : Refusal} → p ≡ Err q → (s : Result Unit Refusal) → Passes s q → RestRead text (rows_rest (rows_in w rows)) from w w (verdict_from s)
   unfolding rows_rest
-  forms_line_refused e cs cv = rest_refused (refused_by (cs ∙ ap stopped_by e) cv) (line_stop text number (forms_rest (rows_in w rows)) told.told e) (Only-refl 0 table_end w)
+  forms_line_refused e s h = rest_refused (refused_by s h) (line_stop text number (forms_rest (rows_in w rows)) told.told e) (Only-refl 0 table_end w)
 
-  module _ {k : Place} {ns : Numbers} {next : Cursor} (e : p ≡ LineTaken.Line k ns next) where
-    pub forms_few : ns.n0 ≤ 64
+  module _ {head : TakenLine} (e : p ≡ Ok head) where
+    pub forms_few : nth head.numbers.values 0 ≤ 64
     forms_few =
         (line_gives text number told.told e (λ k. (0 ≤ k) × (k ≤ 64))
         (Gives-one (λ k. (0 ≤ k) × (k ≤ 64)) (count_line Place.Forms 0 64) (count_line_within Place.Forms 0 64) (lines_of (drop from.at text)) from.line)).1
 
-    told_forms : read_from text from (rows_rest (rows_in w rows)) ≡ and_then (read_from text next (many ns.n0 (read_form (rows_in w rows) ns.n0) [])) (devices_rest (rows_in w rows) ns.n0)
+    told_forms : read_from text from (rows_rest (rows_in w rows)) ≡ and_then (read_from text head.next (many (nth head.numbers.values 0) (read_form (rows_in w rows) (nth head.numbers.values 0)) [])) (devices_rest (rows_in w rows) (nth head.numbers.values 0))
     unfolding rows_rest forms_rest
     told_forms = line_then text number (forms_rest (rows_in w rows)) told.told e
 
-    module _ {w₁ : List ℕ} {r : Progress} (m : FormsRead text rows ns.n0 next w w₁ r) where
+    module _ {w₁ : List ℕ} {r : Result Cursor Refusal} (m : FormsRead text rows (nth head.numbers.values 0) head.next w w₁ r) where
       forms_only : Only 0 table_end w w₁
       forms_only = Only-widen (omega arith) (omega arith) m.read.only
 
-      pub forms_refused : {q : Reason} {l : ℕ} → r ≡ Progress.Refused q l → {v : Verdict} → v ≡ progress_verdict r → RestRead text (rows_rest (rows_in w rows)) from w w₁ v
-      forms_refused c cv =
-          rest_refused (refused_by c cv) (told_forms ∙ moved_stop text (devices_rest (rows_in w rows) ns.n0) (forms_in w₁ ns.n0) m.read.told c) forms_only
+      pub forms_refused : {q : Refusal} → r ≡ Err q → (s : Result Unit Refusal) → Passes s q → RestRead text (rows_rest (rows_in w rows)) from w w₁ (verdict_from s)
+      forms_refused c s h =
+          rest_refused (refused_by s h) (told_forms ∙ moved_stop text (devices_rest (rows_in w rows) (nth head.numbers.values 0)) (forms_in w₁ (nth head.numbers.values 0)) m.read.told c) forms_only
 
       pub forms_ready : Ready rows w₁
       forms_ready = Ready-kept rows (form_address 0) table_end w w₁ (omega arith) m.read.only ready
@@ -74,17 +76,17 @@ module _ {text : List ℕ} {rows : ℕ} {from : Cursor} {w : List ℕ} (ready : 
       rows_same : rows_in w₁ rows ≡ rows_in w rows
       rows_same = tab_ext (row_in w₁) (row_in w) rows (λ i h. row_same w w₁ i (λ k l u. m.read.only.below k (omega arith)))
 
-      module _ {to : Cursor} (moved : r ≡ Progress.Moved to) where
-        pub forms_used : FormsUsed w₁ ns.n0 to.used
+      module _ {to : Cursor} (moved : r ≡ Ok to) where
+        pub forms_used : FormsUsed w₁ (nth head.numbers.values 0) to.used
         forms_used = record { counted = (Moved-on moved m.read.advanced).pool; ends = m.ends to moved }
 
-        pub forms_after : {w' : List ℕ} {v : Verdict} → RestRead text (devices_rest (rows_in w₁ rows) ns.n0 (forms_in w₁ ns.n0)) to w₁ w' v → RestRead text (rows_rest (rows_in w rows)) from w w' v
+        pub forms_after : {w' : List ℕ} {v : Verdict} → RestRead text (devices_rest (rows_in w₁ rows) (nth head.numbers.values 0) (forms_in w₁ (nth head.numbers.values 0))) to w₁ w' v → RestRead text (rows_rest (rows_in w rows)) from w w' v
         forms_after k =
             record {
               told =
                   k.told
-                  ∙ ap (λ (rs : List Row). conclude (read_from text to (devices_rest rs ns.n0 (forms_in w₁ ns.n0)))) rows_same
-                  ∙ sym (ap conclude (told_forms ∙ Moved-then text (devices_rest (rows_in w rows) ns.n0) (forms_in w₁ ns.n0) m.read.told moved));
+                  ∙ ap (λ (rs : List Row). conclude (read_from text to (devices_rest rs (nth head.numbers.values 0) (forms_in w₁ (nth head.numbers.values 0))))) rows_same
+                  ∙ sym (ap conclude (told_forms ∙ Moved-then text (devices_rest (rows_in w rows) (nth head.numbers.values 0)) (forms_in w₁ (nth head.numbers.values 0)) m.read.told moved));
               only = Only-trans forms_only k.only;
               placed = k.placed;
             }
@@ -96,51 +98,51 @@ sheet_rest : (ls : List Line) (n : ℕ)
 unfolding read_sheet rows_rest forms_rest devices_rest main_rest instrs_rest end_rest
 sheet_rest ls n = refl
 
-module _ {text : List ℕ} (w : List ℕ) (size : work_size ≤ length w) {b : ℕ} {p : LineTaken} (told : LineTold Place.Types b text text_start p) where
-  pub types_refused : {q : Reason} {l : ℕ} → p ≡ LineTaken.Refused q l → {s : Progress} → s ≡ stopped_by p → {v : Verdict} → v ≡ progress_verdict s → RestRead text read_sheet text_start w w v
-  types_refused e cs cv =
-      rest_refused (refused_by (cs ∙ ap stopped_by e) cv)
+module _ {text : List ℕ} (w : List ℕ) (size : work_size ≤ length w) {b : ℕ} {p : Result TakenLine Refusal} (told : LineTold Place.Types b text text_start p) where
+  pub types_refused : {q : Refusal} → p ≡ Err q → (s : Result Unit Refusal) → Passes s q → RestRead text read_sheet text_start w w (verdict_from s)
+  types_refused e s h =
+      rest_refused (refused_by s h)
       (sheet_rest (lines_of (drop 0 text)) 1 ∙ line_stop text number (λ t ls n. and_then (many t read_row [] ls n) rows_rest) told.told e) (Only-refl 0 table_end w)
 
-  module _ {k : Place} {ns : Numbers} {next : Cursor} (e : p ≡ LineTaken.Line k ns next) where
-    pub types_few : ns.n0 ≤ 64
+  module _ {head : TakenLine} (e : p ≡ Ok head) where
+    pub types_few : nth head.numbers.values 0 ≤ 64
     types_few =
         (line_gives text number told.told e (λ k. (1 ≤ k) × (k ≤ 64))
         (Gives-one (λ k. (1 ≤ k) × (k ≤ 64)) (count_line Place.Types 1 64) (count_line_within Place.Types 1 64) (lines_of (drop 0 text)) 1)).1
 
-    told_rows : read_from text text_start read_sheet ≡ and_then (read_from text next (many ns.n0 read_row [])) rows_rest
+    told_rows : read_from text text_start read_sheet ≡ and_then (read_from text head.next (many (nth head.numbers.values 0) read_row [])) rows_rest
     told_rows = sheet_rest (lines_of (drop 0 text)) 1 ∙ line_then text number (λ t ls n. and_then (many t read_row [] ls n) rows_rest) told.told e
 
-    module _ {count : ℕ} (count-is : count ≡ ns.n0) {w₁ : List ℕ} {r : Progress} (m₁ : RowsRead text count next w w₁ r) where
-      m : RowsRead text ns.n0 next w w₁ r
-      m = subst (λ (k : ℕ). RowsRead text k next w w₁ r) count-is m₁
+    module _ {count : ℕ} (count-is : count ≡ nth head.numbers.values 0) {w₁ : List ℕ} {r : Result Cursor Refusal} (m₁ : RowsRead text count head.next w w₁ r) where
+      m : RowsRead text (nth head.numbers.values 0) head.next w w₁ r
+      m = subst (λ (k : ℕ). RowsRead text k head.next w w₁ r) count-is m₁
 
       rows_only : Only 0 table_end w w₁
       rows_only = Only-widen (omega arith) (omega arith) m.only
 
-      pub rows_refused : {q : Reason} {l : ℕ} → r ≡ Progress.Refused q l → {v : Verdict} → v ≡ progress_verdict r → RestRead text read_sheet text_start w w₁ v
-      rows_refused c cv = rest_refused (refused_by c cv) (told_rows ∙ moved_stop text rows_rest (rows_in w₁ ns.n0) m.told c) rows_only
+      pub rows_refused : {q : Refusal} → r ≡ Err q → (s : Result Unit Refusal) → Passes s q → RestRead text read_sheet text_start w w₁ (verdict_from s)
+      rows_refused c s h = rest_refused (refused_by s h) (told_rows ∙ moved_stop text rows_rest (rows_in w₁ (nth head.numbers.values 0)) m.told c) rows_only
 
-      module _ {to : Cursor} (moved : r ≡ Progress.Moved to) where
+      module _ {to : Cursor} (moved : r ≡ Ok to) where
         pub rows_moved : Room text to × (to.used ≡ 0)
         rows_moved = let x = Moved-on moved m.advanced in (x.room, x.pool ∙ (past e told.onward).pool)
 
-        well_formed : WellFormedRows (rows_in w₁ ns.n0)
+        well_formed : WellFormedRows (rows_in w₁ (nth head.numbers.values 0))
         well_formed =
-            go (rows_in w₁ ns.n0)
-            (subst (Gives (λ rows. WellFormedRows rows × (length rows ≡ ns.n0))) (sym (ap (λ (x : Progress). read_told text x (rows_in w₁ ns.n0)) (sym moved) ∙ m.told))
-            (read_rows_well_formed ns.n0 (lines_of (drop next.at text)) next.line))
+            go (rows_in w₁ (nth head.numbers.values 0))
+            (subst (Gives (λ rows. WellFormedRows rows × (length rows ≡ nth head.numbers.values 0))) (sym (ap (λ (x : Result Cursor Refusal). read_told text x (rows_in w₁ (nth head.numbers.values 0))) (sym moved) ∙ m.told))
+            (read_rows_well_formed (nth head.numbers.values 0) (lines_of (drop head.next.at text)) head.next.line))
           where
-            go : (rows : List Row) → Gives (λ rows. WellFormedRows rows × (length rows ≡ ns.n0)) (got_at text to rows) → WellFormedRows rows
+            go : (rows : List Row) → Gives (λ rows. WellFormedRows rows × (length rows ≡ nth head.numbers.values 0)) (got_at text to rows) → WellFormedRows rows
             go rows (its_got x) = x.0
 
-        pub rows_then_ready : Ready ns.n0 w₁
-        rows_then_ready = rows_ready ns.n0 w₁ (omega (arith, m.only.size)) types_few well_formed
+        pub rows_then_ready : Ready (nth head.numbers.values 0) w₁
+        rows_then_ready = rows_ready (nth head.numbers.values 0) w₁ (omega (arith, m.only.size)) types_few well_formed
 
-        pub rows_forms : {w' : List ℕ} {v : Verdict} → RestRead text (rows_rest (rows_in w₁ ns.n0)) to w₁ w' v → RestRead text read_sheet text_start w w' v
+        pub rows_forms : {w' : List ℕ} {v : Verdict} → RestRead text (rows_rest (rows_in w₁ (nth head.numbers.values 0))) to w₁ w' v → RestRead text read_sheet text_start w w' v
         rows_forms k =
             record {
-              told = k.told ∙ sym (ap conclude (told_rows ∙ Moved-then text rows_rest (rows_in w₁ ns.n0) m.told moved));
+              told = k.told ∙ sym (ap conclude (told_rows ∙ Moved-then text rows_rest (rows_in w₁ (nth head.numbers.values 0)) m.told moved));
               only = Only-trans rows_only k.only;
               placed = k.placed;
             }
@@ -174,7 +176,7 @@ module _ (text w : List ℕ) where
         }
 
     pub sheet_read : length text ≤ 65535 → {w' : List ℕ} {v : Verdict} → RestRead text read_sheet text_start w w' v → SheetRead text w w' v
-    unfolding meaning drop
+    unfolding meaning
     sheet_read l k =
         record {
           told =

@@ -14,13 +14,7 @@ use Rattle.table.specs.View.{sheet_in}
 use Rattle.table.specs.Only.{Only}
 use Rattle.table.specs.Pool.{Placed}
 use Rattle.line_reader.specs.declared.Cursor.{Cursor}
-use Rattle.line_reader.specs.declared.Progress.{Progress}
 use Rattle.line_reader.specs.Told.{read_from}
-
--- some lines' answer as a verdict
-abbrev pub progress_verdict : Progress → Verdict
-progress_verdict (Progress.Moved c) = Verdict.Accepted
-progress_verdict (Progress.Refused r n) = Verdict.Refused r n
 
 -- where reading a text begins
 abbrev pub text_start : Cursor

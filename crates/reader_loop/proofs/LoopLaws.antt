@@ -13,9 +13,12 @@ use Rattle.sheet_rules.specs.Reader.{got, refused, Reader, and_then, many}
 use Rattle.table.specs.Only.{Only}
 use Rattle.table.proofs.ViewLaws.{Only-refl, Only-trans, Only-widen}
 use Rattle.line_reader.specs.declared.Cursor.{Cursor}
-use Rattle.line_reader.specs.declared.Progress.{Progress}
 use Rattle.line_reader.specs.Told.{Room, read_from, got_at, read_told, Advanced}
 use Rattle.reader_loop.specs.Items.{ItemRead, Items, ItemsRead}
+use Rattle.std.specs.declared.result.Result.{Result}
+use Rattle.std.specs.declared.result.Result.TheVariants.{Ok, Err}
+use Rattle.sheet_rules.specs.declared.Refusal.{Refusal}
+use Rattle.line_reader.proofs.ExitLaws.{Passes, passed_on}
 
 -- what it means to have moved on
 pub record Moved (text : List ℕ) (from : Cursor) (used : ℕ) (to : Cursor) : Type 0 where
@@ -23,10 +26,10 @@ pub record Moved (text : List ℕ) (from : Cursor) (used : ℕ) (to : Cursor) : 
   pub room : Room text to
   pub pool : to.used ≡ used
 
-pub Advanced-Moved : {text : List ℕ} {from to : Cursor} {used : ℕ} → Advanced text from used (Progress.Moved to) → Moved text from used to
+pub Advanced-Moved : {text : List ℕ} {from to : Cursor} {used : ℕ} → Advanced text from used (Ok to) → Moved text from used to
 Advanced-Moved (Advanced.moved l r u) = record { later = l; room = r; pool = u }
 
-pub Moved-on : {text : List ℕ} {from to : Cursor} {used : ℕ} {r : Progress} → r ≡ Progress.Moved to → Advanced text from used r → Moved text from used to
+pub Moved-on : {text : List ℕ} {from to : Cursor} {used : ℕ} {r : Result Cursor Refusal} → r ≡ Ok to → Advanced text from used r → Moved text from used to
 Moved-on {text} {from} {used = used} e a = Advanced-Moved (subst (Advanced text from used) e a)
 
 -- k items more, where the first is read or refused
@@ -62,12 +65,12 @@ Going-start {text = text} {x = x} {from = from} {w = w} r u =
     }
 
 -- a turn: item j was read within the loop's part of the buffer, and the items before it are as they were
-pub record Turn {A : Type 0} (text : List ℕ) (x : Items A) (w : List ℕ) (j : ℕ) (here : Cursor) (w' : List ℕ) (r : Progress) : Type 0 where
+pub record Turn {A : Type 0} (text : List ℕ) (x : Items A) (w : List ℕ) (j : ℕ) (here : Cursor) (w' : List ℕ) (r : Result Cursor Refusal) : Type 0 where
   pub read : ItemRead text (x.item (tab (x.value w) j)) (λ v. x.value v j) (λ v. x.used v (j + 1)) x.lo x.hi here w w' r
   pub kept : tab (x.value w') j ≡ tab (x.value w) j
 
 -- an item that has no instructions, read within a wider part of the buffer
-pub read_within : {A : Type 0} {text : List ℕ} {item : Reader A} {value : List ℕ → A} {lo lo' hi hi' used : ℕ} {here : Cursor} {w w' : List ℕ} {r : Progress} → lo' ≤ lo → hi ≤ hi'
+pub read_within : {A : Type 0} {text : List ℕ} {item : Reader A} {value : List ℕ → A} {lo lo' hi hi' used : ℕ} {here : Cursor} {w w' : List ℕ} {r : Result Cursor Refusal} → lo' ≤ lo → hi ≤ hi'
     → here.used ≡ used → ItemRead text item value (λ v. here.used) lo hi here w w' r → ItemRead text item value (λ v. used) lo' hi' here w w' r
 read_within {text = text} {here = here} {r = r} l h u m =
     record { told = m.told; only = Only-widen l h m.only; advanced = subst (λ (n : ℕ). Advanced text here n r) u m.advanced }
@@ -76,7 +79,7 @@ module _ {A : Type 0} {text : List ℕ} {x : Items A} {count : ℕ} {from : Curs
   one_more : j < count → count - j ≡ suc (count - (j + 1))
   one_more l = omega arith
 
-  pub Going-next : j < count → {w' : List ℕ} {r : Progress} {to : Cursor} → r ≡ Progress.Moved to → Turn text x w j here w' r → Going text x count from w₀ w' (j + 1) to
+  pub Going-next : j < count → {w' : List ℕ} {r : Result Cursor Refusal} {to : Cursor} → r ≡ Ok to → Turn text x w j here w' r → Going text x count from w₀ w' (j + 1) to
   Going-next l {w'} {r} {to} e t =
       let moved = Moved-on e t.read.advanced in
       record {
@@ -90,27 +93,27 @@ module _ {A : Type 0} {text : List ℕ} {x : Items A} {count : ℕ} {from : Curs
             (ap (tab (x.value w')) (add-one j) ∙ tab-suc (x.value w') j ∙ ap (λ (xs : List A). xs ++ (x.value w' j ∷ [])) t.kept)
             ∙ sym
             (many-got (count - (j + 1)) x.item (tab (x.value w) j) (lines_of (drop here.at text)) here.line (x.value w' j) (lines_of (drop to.at text)) to.line
-            (ap (λ (y : Progress). read_told text y (x.value w' j)) (sym e) ∙ t.read.told))
+            (ap (λ (y : Result Cursor Refusal). read_told text y (x.value w' j)) (sym e) ∙ t.read.told))
             ∙ ap (λ (k : ℕ). read_from text here (many k x.item (tab (x.value w) j))) (sym (one_more l))
             ∙ g.same;
       }
 
-  pub going_stop : j < count → {w' : List ℕ} {r : Progress} {q : Reason} {n : ℕ} → r ≡ Progress.Refused q n → Turn text x w j here w' r
-      → ItemsRead text x count from w₀ w' r
-  going_stop l {w'} {r} {q} {n} e t =
-      record {
+  pub going_stop : j < count → {w' : List ℕ} {r : Result Cursor Refusal} {q : Refusal} → r ≡ Err q → Turn text x w j here w' r
+      → {s : Result Cursor Refusal} → Passes s q → ItemsRead text x count from w₀ w' s
+  going_stop l {w'} {r} {q} e t h =
+      passed_on (ItemsRead text x count from w₀ w') h
+      (record {
         told =
-            ap (λ (y : Progress). read_told text y (tab (x.value w') count)) e
-            ∙ sym
-            (many-refused (count - (j + 1)) x.item (tab (x.value w) j) (lines_of (drop here.at text)) here.line q n
-            (ap (λ (y : Progress). read_told text y (x.value w' j)) (sym e) ∙ t.read.told))
+            sym
+            (many-refused (count - (j + 1)) x.item (tab (x.value w) j) (lines_of (drop here.at text)) here.line q.reason q.line
+            (ap (λ (y : Result Cursor Refusal). read_told text y (x.value w' j)) (sym e) ∙ t.read.told))
             ∙ ap (λ (k : ℕ). read_from text here (many k x.item (tab (x.value w) j))) (sym (one_more l))
             ∙ g.same;
         only = Only-trans g.only t.read.only;
-        advanced = subst (Advanced text from (x.used w' count)) (sym e) Advanced.stopped;
-      }
+        advanced = Advanced.stopped;
+      })
 
-  pub going_end : count ≤ j → ItemsRead text x count from w₀ w (Progress.Moved here)
+  pub going_end : count ≤ j → ItemsRead text x count from w₀ w (Ok here)
   unfolding many
   going_end l =
       let e : j ≡ count = omega (arith, g.within) in

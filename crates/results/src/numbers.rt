@@ -32,13 +32,15 @@ pub fn number_of(reason: Reason) -> u32
 pub fn lack_of(reason: Reason) -> u32
     ensures { result ≡ lack_number (reason_lack reason) }
 {
-    let Reason::Misfit { lack } = reason else {
-        return 0;
-    };
-    match lack {
-        Lack::Count => 1,
-        Lack::WrongKind => 2,
-        Lack::Unmet { .. } => 3,
+    match reason {
+        Reason::Misfit { lack: Lack::Count } => 1,
+        Reason::Misfit {
+            lack: Lack::WrongKind,
+        } => 2,
+        Reason::Misfit {
+            lack: Lack::Unmet { .. },
+        } => 3,
+        _ => 0,
     }
 }
 
@@ -46,13 +48,12 @@ pub fn lack_of(reason: Reason) -> u32
 pub fn name_of(reason: Reason) -> u32
     ensures { result ≡ lack_name (reason_lack reason) }
 {
-    let Reason::Misfit { lack } = reason else {
-        return 0;
-    };
-    let Lack::Unmet { name } = lack else {
-        return 0;
-    };
-    name as u32
+    match reason {
+        Reason::Misfit {
+            lack: Lack::Unmet { name },
+        } => name as u32,
+        _ => 0,
+    }
 }
 
 // The number of an outcome.

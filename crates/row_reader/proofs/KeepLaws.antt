@@ -9,7 +9,6 @@ use mathlib.Core.List.{List, [], ◌∷◌, ◌++◌}
 use lib.Dec.{T, eqb, eqb→eq}
 use lib.ListN.{length, drop}
 use Rattle.lists.proofs.TabLaws.{tab-suc, tab_ext, length-tab}
-use Rattle.lists.proofs.Tests.{clash}
 use Rattle.sheet_rules.specs.declared.Place.{Place}
 use Rattle.sheet_rules.specs.declared.Member.{Member}
 use Rattle.sheet_rules.specs.declared.MemberKind.{MemberKind}
@@ -19,8 +18,8 @@ use Rattle.sheet_rules.specs.Lines.{Line, lines_of}
 use Rattle.sheet_rules.specs.Keys.{member_kind}
 use Rattle.sheet_rules.specs.Reader.{Judged, good, bad, demand, got, refused, settle}
 use Rattle.sheet_rules.specs.RowLines.{kind_of, twin, member_of, mentions_below}
-use Rattle.lexer.specs.declared.Numbers.{Numbers}
-use Rattle.lexer.specs.Scan.{list_of}
+use Rattle.lexer.specs.declared.numbers.Numbers.{Numbers}
+use Rattle.lexer.specs.Told.{list_of}
 use Rattle.line_judges.specs.Told.{MemberShaped, member_rest}
 use Rattle.line_judges.proofs.JudgeLaws.{demand_no, demand_yes}
 use Rattle.table.specs.Layout.{row_address, member_address, work_size}
@@ -31,8 +30,11 @@ use Rattle.table.specs.Stores.{member_put}
 use Rattle.row_store.specs.Stored.{Stored}
 use Rattle.row_store.proofs.StoreLaws.{Stored-member}
 use Rattle.line_reader.specs.declared.Cursor.{Cursor}
-use Rattle.line_reader.specs.declared.Progress.{Progress}
+use Rattle.line_reader.proofs.ExitLaws.{no_answer}
 use Rattle.row_reader.specs.Reads.{heading_in, InRow, Kept}
+use Rattle.std.specs.declared.result.Result.TheVariants.{Ok}
+use Rattle.sheet_rules.specs.Answers.{turned_away}
+use Rattle.sheet_rules.specs.Reader.{nth}
 
 -- members before and after the one that changed
 module _ (w w' : List ℕ) (i j : ℕ) (o : Only (member_address i j) (member_address i j + 4) w w') where
@@ -56,7 +58,7 @@ module _ (w w' : List ℕ) (i j : ℕ) (o : Only (member_address i j) (member_ad
 
 -- a member was stored: the test of the whole row
 module _ {w w' : List ℕ} {i j count : ℕ} {k : Place} {ns : Numbers} (r : InRow w i j count) (shaped : MemberShaped k ns) {kind : MemberKind} (ek : kind ≡ member_kind k)
-    (put : w' ≡ member_put w i j kind ns.n0 ns.n1 ns.n2) where
+    (put : w' ≡ member_put w i j kind (nth ns.values 0) (nth ns.values 1) (nth ns.values 2)) where
   s : Stored i j (member_of (member_kind k) (list_of ns)) w w'
   s = Stored-member w w' i j k ns kind r.size shaped ek put
 
@@ -109,9 +111,6 @@ module _ {w w' : List ℕ} {i j count : ℕ} {k : Place} {ns : Numbers} (r : InR
   unfolding settle
   settle-good x ls n = refl
 
-  not_moved : {q : Reason} {n : ℕ} {to : Cursor} {A : Type 0} → Progress.Refused q n ≡ Progress.Moved to → A
-  not_moved e = clash (cc)
-
   rest : Judged Member
   rest = member_rest (length (rows_in w i)) (rows_in w i) (heading_in w i) (members_in w i j) k (list_of ns)
 
@@ -132,17 +131,17 @@ module _ {w w' : List ℕ} {i j count : ℕ} {k : Place} {ns : Numbers} (r : InR
   lower = ap₂ mentions_below (length-tab (row_in w) i) (sym s.holds)
 
   module _ (n : ℕ) (next : Cursor) where
-    pub keep_twin : (eqb (suc j) count && twin (rows_in w' i) (row_in w' i)) ≡ true → Kept i j k ns n next w w' (Progress.Refused DuplicateRow n)
+    pub keep_twin : (eqb (suc j) count && twin (rows_in w' i) (row_in w' i)) ≡ true → Kept i j k ns n next w w' (turned_away DuplicateRow n)
     unfolding rest is_asked
     keep_twin e =
         record {
           told = λ text. sym (ap (λ x. settle x (lines_of (drop next.at text)) n) (rest_twin (sym twin_asked ∙ e)) ∙ settle-bad DuplicateRow (lines_of (drop next.at text)) n);
           only = s.only;
-          moves = λ to p. not_moved p;
+          moves = λ to p. no_answer p;
         }
 
     module _ (e : (eqb (suc j) count && twin (rows_in w' i) (row_in w' i)) ≡ false) where
-      pub keep_not : mentions_below i (member_in w' i j) ≡ false → Kept i j k ns n next w w' (Progress.Refused NotDefined n)
+      pub keep_not : mentions_below i (member_in w' i j) ≡ false → Kept i j k ns n next w w' (turned_away NotDefined n)
       unfolding rest is_asked
       keep_not f =
           record {
@@ -150,10 +149,10 @@ module _ {w w' : List ℕ} {i j count : ℕ} {k : Place} {ns : Numbers} (r : InR
                 sym (ap (λ x. settle x (lines_of (drop next.at text)) n) (rest_on (sym twin_asked ∙ e) ∙ demand_no _ _ _ (lower ∙ f))
                 ∙ settle-bad NotDefined (lines_of (drop next.at text)) n);
             only = s.only;
-            moves = λ to p. not_moved p;
+            moves = λ to p. no_answer p;
           }
 
-      pub keep_good : next.line ≡ n + 1 → mentions_below i (member_in w' i j) ≡ true → Kept i j k ns n next w w' (Progress.Moved next)
+      pub keep_good : next.line ≡ n + 1 → mentions_below i (member_in w' i j) ≡ true → Kept i j k ns n next w w' (Ok next)
       unfolding rest is_asked
       keep_good en f =
           record {

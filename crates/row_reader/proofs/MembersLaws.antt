@@ -12,11 +12,12 @@ use Rattle.table.specs.Layout.{row_address}
 use Rattle.table.specs.View.{members_in, row_in, rows_in}
 use Rattle.table.proofs.ViewLaws.{Only-widen, row_other}
 use Rattle.line_reader.specs.declared.Cursor.{Cursor}
-use Rattle.line_reader.specs.declared.Progress.{Progress}
 use Rattle.line_reader.specs.Told.{read_from, Advanced}
 use Rattle.reader_loop.proofs.LoopLaws.{Going, Turn}
 use Rattle.row_reader.specs.Reads.{heading_in, Headed, InRow, MemberRead, member_items}
 use Rattle.row_reader.proofs.KeepLaws.{members_before}
+use Rattle.std.specs.declared.result.Result.{Result}
+use Rattle.sheet_rules.specs.declared.Refusal.{Refusal}
 
 module _ {text : List ℕ} {i count used : ℕ} {from : Cursor} {w₀ w : List ℕ} {j : ℕ} {here : Cursor} (h : Headed w₀ i count)
     (g : Going text (member_items w₀ i used) count from w₀ w j here) where
@@ -39,7 +40,7 @@ module _ {text : List ℕ} {i count used : ℕ} {from : Cursor} {w₀ w : List �
         size = omega (arith, g.only.size, h.size);
       }
 
-  pub member_turn : j < count → {w' : List ℕ} {r : Progress} → MemberRead text i j here w w' r → Turn text (member_items w₀ i used) w j here w' r
+  pub member_turn : j < count → {w' : List ℕ} {r : Result Cursor Refusal} → MemberRead text i j here w w' r → Turn text (member_items w₀ i used) w j here w' r
   member_turn l {w'} {r} m =
       record {
         read =

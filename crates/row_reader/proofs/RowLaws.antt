@@ -24,14 +24,19 @@ use Rattle.table.specs.Layout.{row_address, work_size}
 use Rattle.table.specs.View.{cell, members_in, row_in, rows_in}
 use Rattle.table.specs.Only.{Only}
 use Rattle.table.specs.Stores.{row_head_put}
-use Rattle.table.proofs.ViewLaws.{Only-refl, Only-set, Only-trans, Only-widen, row_other}
-use Rattle.lexer.specs.declared.Numbers.{Numbers}
+use Rattle.table.proofs.ViewLaws.{Only-set, Only-trans, Only-widen, row_other}
+use Rattle.lexer.specs.declared.numbers.Numbers.{Numbers}
 use Rattle.line_reader.specs.declared.Cursor.{Cursor}
-use Rattle.line_reader.specs.declared.LineTaken.{LineTaken}
-use Rattle.line_reader.specs.declared.Progress.{Progress}
-use Rattle.line_reader.specs.Told.{read_from, line_asked, LineTold, read_told, stopped_by, Advanced}
-use Rattle.reader_loop.proofs.ThenLaws.{past, Advanced-sooner}
+use Rattle.line_reader.specs.declared.TakenLine.{TakenLine}
+use Rattle.line_reader.specs.Told.{read_from, line_asked, LineTold, read_told, Advanced}
+use Rattle.reader_loop.proofs.ThenLaws.{past, item_refused, Advanced-sooner}
 use Rattle.row_reader.specs.Reads.{heading_in, Headed, MembersRead, row_rest, RowKept, RowRead}
+use Rattle.std.specs.declared.result.Result.{Result}
+use Rattle.std.specs.declared.result.Result.TheVariants.{Ok, Err}
+use Rattle.line_reader.proofs.ExitLaws.{Passes}
+use Rattle.sheet_rules.specs.declared.Refusal.{Refusal}
+use Rattle.sheet_rules.specs.Answers.{turned_away}
+use Rattle.sheet_rules.specs.Reader.{nth}
 
 -- a row of a kind's number and members
 abbrev row_of : ℕ → List Member → Row
@@ -91,11 +96,11 @@ module _ (w : List ℕ) (i kind count : ℕ) (size : work_size ≤ length w) whe
 
     module _ {text : List ℕ} (n : ℕ) {next : Cursor} where
       pub row_twin : (eqb count 0 && twin (rows_in (headed w i kind count) i) (row_in (headed w i kind count) i)) ≡ true
-          → RowKept text i kind count n next w (headed w i kind count) (Progress.Refused DuplicateRow n)
+          → RowKept text i kind count n next w (headed w i kind count) (turned_away DuplicateRow n)
       row_twin e = record { told = sym (told_twin e (lines_of (drop next.at text)) n); only = headed-Only; advanced = Advanced.stopped }
 
       pub row_members : (eqb count 0 && twin (rows_in (headed w i kind count) i) (row_in (headed w i kind count) i)) ≡ false → next.line ≡ n + 1
-          → (w' : List ℕ) (r : Progress) → MembersRead text i count next (headed w i kind count) w' r → RowKept text i kind count n next w w' r
+          → (w' : List ℕ) (r : Result Cursor Refusal) → MembersRead text i count next (headed w i kind count) w' r → RowKept text i kind count n next w w' r
       unfolding row_in and_then
       row_members e en w' r m =
           record {
@@ -118,22 +123,22 @@ module _ (w : List ℕ) (i kind count : ℕ) (size : work_size ≤ length w) whe
                 members = members_in w' i ((m.only.below (row_address i + 1) (omega arith) ∙ count_stored) x);
               }
 
-          each : (p : Progress) → read_told text p (row_of kind (members_in w' i count))
+          each : (p : Result Cursor Refusal) → read_told text p (row_of kind (members_in w' i count))
               ≡ and_then (read_told text p (members_in w' i count)) (λ members. give (row_of kind members))
-          each (Progress.Moved to) = refl
-          each (Progress.Refused q l) = refl
+          each (Ok to) = refl
+          each (Err q) = refl
 
 -- the same, by what the calls left
 module _ (w : List ℕ) (i kind : ℕ) {count : ℕ} (size : work_size ≤ length w) (hi : i < 64) {w₁ : List ℕ} (e : w₁ ≡ headed w i kind count) {c' : ℕ} (ec : c' ≡ count) where
   asked_by : {b : Bool} → b ≡ (eqb c' 0 && twin (rows_in w₁ i) (row_in w₁ i)) → (eqb count 0 && twin (rows_in (headed w i kind count) i) (row_in (headed w i kind count) i)) ≡ b
   asked_by p = sym (ap₂ (λ (x : List ℕ) (m : ℕ). eqb m 0 && twin (rows_in x i) (row_in x i)) e ec) ∙ sym p
 
-  pub row_twin_by : {text : List ℕ} (n : ℕ) {next : Cursor} {b : Bool} → b ≡ (eqb c' 0 && twin (rows_in w₁ i) (row_in w₁ i)) → b ≡ true → RowKept text i kind count n next w w₁ (Progress.Refused DuplicateRow n)
+  pub row_twin_by : {text : List ℕ} (n : ℕ) {next : Cursor} {b : Bool} → b ≡ (eqb c' 0 && twin (rows_in w₁ i) (row_in w₁ i)) → b ≡ true → RowKept text i kind count n next w w₁ (turned_away DuplicateRow n)
   row_twin_by {text} n {next} p q =
-      subst (λ (x : List ℕ). RowKept text i kind count n next w x (Progress.Refused DuplicateRow n)) (sym e) (row_twin w i kind count size hi n (asked_by p ∙ q))
+      subst (λ (x : List ℕ). RowKept text i kind count n next w x (turned_away DuplicateRow n)) (sym e) (row_twin w i kind count size hi n (asked_by p ∙ q))
 
   pub row_members_by : {text : List ℕ} (n : ℕ) {next : Cursor} → next.line ≡ n + 1 → {b : Bool} → b ≡ (eqb c' 0 && twin (rows_in w₁ i) (row_in w₁ i)) → b ≡ false
-      → {w' : List ℕ} {r : Progress} → MembersRead text i c' next w₁ w' r → RowKept text i kind count n next w w' r
+      → {w' : List ℕ} {r : Result Cursor Refusal} → MembersRead text i c' next w₁ w' r → RowKept text i kind count n next w w' r
   row_members_by {text} n {next} en p q {w'} {r} m =
       row_members w i kind count size hi n (asked_by p ∙ q) en w' r
       (subst (λ (x : List ℕ). MembersRead text i count next x w' r) e (subst (λ (k : ℕ). MembersRead text i k next w₁ w' r) ec m))
@@ -160,31 +165,27 @@ unfolding row_rest and_then
 rest_refused earlier q n = refl
 
 -- by what the heading's reader gave
-module _ {text : List ℕ} {from : Cursor} (i : ℕ) (w : List ℕ) {b : ℕ} {p : LineTaken} (told : LineTold Place.Row b text from p) where
+module _ {text : List ℕ} {from : Cursor} (i : ℕ) (w : List ℕ) {b : ℕ} {p : Result TakenLine Refusal} (told : LineTold Place.Row b text from p) where
   abbrev asked : Place → Numbers → Judged Heading
-  asked k ns = row_told (rows_in w i) ns.n0 ns.n1
+  asked k ns = row_told (rows_in w i) (nth ns.values 0) (nth ns.values 1)
 
   told_by : read_from text from (read_row (rows_in w i)) ≡ row_rest (rows_in w i) (line_asked text from.line asked p)
   told_by = read_row_rest (rows_in w i) (lines_of (drop from.at text)) from.line ∙ ap (row_rest (rows_in w i)) (sym (told.told.0 (rows_in w i)))
 
-  module _ {k : Place} {ns : Numbers} {next : Cursor} (e : p ≡ LineTaken.Line k ns next) where
-    pub row_few : ns.n1 ≤ 8
-    row_few = told.told.1 k ns next e
+  module _ {head : TakenLine} (e : p ≡ Ok head) where
+    pub row_few : nth head.numbers.values 1 ≤ 8
+    row_few = told.told.1 head e
 
-    pub row_read : {w' : List ℕ} {r : Progress} → RowKept text i ns.n0 ns.n1 from.line next w w' r → RowRead text i from w w' r
+    pub row_read : {w' : List ℕ} {r : Result Cursor Refusal} → RowKept text i (nth head.numbers.values 0) (nth head.numbers.values 1) from.line head.next w w' r → RowRead text i from w w' r
     row_read {r = r} kept =
         let q = past e told.onward in
         record {
-          told = kept.told ∙ sym (told_by ∙ ap (λ (x : LineTaken). row_rest (rows_in w i) (line_asked text from.line asked x)) e);
+          told = kept.told ∙ sym (told_by ∙ ap (λ (x : Result TakenLine Refusal). row_rest (rows_in w i) (line_asked text from.line asked x)) e);
           only = kept.only;
-          advanced = subst (λ (u : ℕ). Advanced text from u r) q.pool (Advanced-sooner (let l : from.at ≤ next.at = omega (arith, q.later) in l) kept.advanced);
+          advanced = subst (λ (u : ℕ). Advanced text from u r) q.pool (Advanced-sooner (let l : from.at ≤ head.next.at = omega (arith, q.later) in l) kept.advanced);
         }
 
-  pub row_refused : {q : Reason} {l : ℕ} → p ≡ LineTaken.Refused q l → {r : Progress} → r ≡ stopped_by p → RowRead text i from w w r
-  row_refused {q} {l} e c =
-      subst (RowRead text i from w w) (sym (c ∙ ap stopped_by e))
-      (record {
-        told = sym (told_by ∙ ap (λ (x : LineTaken). row_rest (rows_in w i) (line_asked text from.line asked x)) e ∙ rest_refused (rows_in w i) q l);
-        only = Only-refl (row_address i) (row_address i + 36) w;
-        advanced = Advanced.stopped;
-      })
+  pub row_refused : {q : Refusal} → p ≡ Err q → {r : Result Cursor Refusal} → Passes r q → RowRead text i from w w r
+  row_refused {q} e =
+      item_refused _ _ _ (row_address i) (row_address i + 36) from w
+      (told_by ∙ ap (λ (x : Result TakenLine Refusal). row_rest (rows_in w i) (line_asked text from.line asked x)) e ∙ rest_refused (rows_in w i) q.reason q.line)

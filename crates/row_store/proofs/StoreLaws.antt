@@ -12,8 +12,8 @@ use Rattle.sheet_rules.specs.declared.Place.{Place}
 use Rattle.sheet_rules.specs.declared.Place.TheVariants.{Types, Row, Member, Forms, Form, Keep, Init, Body, Devices, Device, Main, Instruction, Nowhere}
 use Rattle.sheet_rules.specs.Keys.{same_place, member_kind}
 use Rattle.sheet_rules.specs.RowLines.{member_of}
-use Rattle.lexer.specs.declared.Numbers.{Numbers}
-use Rattle.lexer.specs.Scan.{list_of, Fitting}
+use Rattle.lexer.specs.declared.numbers.Numbers.{Numbers}
+use Rattle.lexer.specs.Told.{list_of, Fitting}
 use Rattle.line_judges.specs.Told.{MemberShaped}
 use Rattle.line_judges.proofs.JudgeLaws.{number_first, number_second, number_third}
 use Rattle.table.specs.Layout.{member_address, work_size}
@@ -22,6 +22,7 @@ use Rattle.table.specs.Stores.{member_put}
 use Rattle.table.specs.Only.{Only}
 use Rattle.table.proofs.ViewLaws.{Only-set, Only-trans}
 use Rattle.row_store.specs.Stored.{Stored}
+use Rattle.sheet_rules.specs.Reader.{nth}
 
 -- four numbers from a place on
 abbrev four : List ℕ → ℕ → ℕ → ℕ → ℕ → ℕ → List ℕ
@@ -74,11 +75,11 @@ four_member w i j t a b c h =
 
 -- a member line's numbers make its member
 pub member_from_lem : (k : Place) (ns : Numbers) → MemberShaped k ns
-    → member_from (kind_tag (member_kind k)) ns.n0 ns.n1 ns.n2 ≡ member_of (member_kind k) (list_of ns)
+    → member_from (kind_tag (member_kind k)) (nth ns.values 0) (nth ns.values 1) (nth ns.values 2) ≡ member_of (member_kind k) (list_of ns)
 member_from_lem k ns s = go k s.fitting (subst T (sym s.member) tt)
   where
     go : (k : Place) → Fitting k ns → T (same_place k (Member MemberKind.Method))
-        → member_from (kind_tag (member_kind k)) ns.n0 ns.n1 ns.n2 ≡ member_of (member_kind k) (list_of ns)
+        → member_from (kind_tag (member_kind k)) (nth ns.values 0) (nth ns.values 1) (nth ns.values 2) ≡ member_of (member_kind k) (list_of ns)
     go (Member MemberKind.Method) h t =
         let k : Place = Member MemberKind.Method in
         sym (λ x. Method (number_first k ns h x) (number_second k ns h (lit≤ tt) x) (number_third k ns h (lit≤ tt) x))
@@ -100,13 +101,13 @@ member_from_lem k ns s = go k s.fitting (subst T (sym s.member) tt)
 
 -- what storing leaves
 pub Stored-member : (w w' : List ℕ) (i j : ℕ) (k : Place) (ns : Numbers) (kind : MemberKind) → work_size ≤ length w → MemberShaped k ns
-    → kind ≡ member_kind k → w' ≡ member_put w i j kind ns.n0 ns.n1 ns.n2 → Stored i j (member_of (member_kind k) (list_of ns)) w w'
+    → kind ≡ member_kind k → w' ≡ member_put w i j kind (nth ns.values 0) (nth ns.values 1) (nth ns.values 2) → Stored i j (member_of (member_kind k) (list_of ns)) w w'
 Stored-member w w' i j k ns kind h s p e =
     record {
       holds =
-          ap (λ (x : List ℕ). member_in x i j) e ∙ four_member w i j (kind_tag kind) ns.n0 ns.n1 ns.n2 h
-          ∙ ap (λ (x : MemberKind). member_from (kind_tag x) ns.n0 ns.n1 ns.n2) p ∙ member_from_lem k ns s;
+          ap (λ (x : List ℕ). member_in x i j) e ∙ four_member w i j (kind_tag kind) (nth ns.values 0) (nth ns.values 1) (nth ns.values 2) h
+          ∙ ap (λ (x : MemberKind). member_from (kind_tag x) (nth ns.values 0) (nth ns.values 1) (nth ns.values 2)) p ∙ member_from_lem k ns s;
       only =
           subst (Only (member_address i j) (member_address i j + 4) w) (sym e)
-          (four-Only w (member_address i j) (kind_tag kind) ns.n0 ns.n1 ns.n2);
+          (four-Only w (member_address i j) (kind_tag kind) (nth ns.values 0) (nth ns.values 1) (nth ns.values 2));
     }

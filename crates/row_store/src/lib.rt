@@ -17,20 +17,14 @@ pub fn lowest_name(work: &[u16], i: usize, j: usize) -> u32
     if j == 0 {
         return 0;
     }
-    let m = table::rows::member(work, i, j - 1);
-    name_of(m) + 1
+    name_of(table::rows::member(work, i, j - 1)) + 1
 }
 
 fn name_of(m: Member) -> u32
     ensures { (result ≡ name_of m) × (result ≤ 65535) }
 {
     match m {
-        Member::Method {
-            name,
-            argument: _,
-            result: _,
-        } => name as u32,
-        Member::Field { name, row: _ } => name as u32,
+        Member::Method { name, .. } | Member::Field { name, .. } => name as u32,
     }
 }
 
@@ -40,18 +34,11 @@ pub fn mentions_below(i: usize, m: Member) -> bool
 {
     match m {
         Member::Method {
-            name: _,
             argument,
             result,
-        } => {
-            if (argument as usize) < i {
-                return (result as usize) < i;
-            }
-            return false;
-        }
-        Member::Field { name: _, row } => {
-            return (row as usize) < i;
-        }
+            ..
+        } => (argument as usize) < i && (result as usize) < i,
+        Member::Field { row, .. } => (row as usize) < i,
     }
 }
 
@@ -60,10 +47,7 @@ pub fn completes_twin(work: &[u16], i: usize, j: usize, count: usize) -> bool
     requires { (i < 64) × (j < 8) × (cell_of work.now (member_count_address i) ≤ 8) × (work_size ≤ length work.now) }
     ensures { result ≡ (eqb (suc j) count && twin (rows_in work.now i) (row_in work.now i)) }
 {
-    if j + 1 == count {
-        return row_twins::has_twin(work, i);
-    }
-    false
+    j + 1 == count && row_twins::has_twin(work, i)
 }
 
 // Row i has no members, and a twin.
@@ -71,8 +55,5 @@ pub fn lone_twin(work: &[u16], i: usize, count: usize) -> bool
     requires { (i < 64) × (cell_of work.now (member_count_address i) ≤ 8) × (work_size ≤ length work.now) }
     ensures { result ≡ (eqb count 0 && twin (rows_in work.now i) (row_in work.now i)) }
 {
-    if count == 0 {
-        return row_twins::has_twin(work, i);
-    }
-    false
+    count == 0 && row_twins::has_twin(work, i)
 }

@@ -12,74 +12,14 @@ use sheet_rules::{Kind, Member};
 fn same_kind(a: Kind, b: Kind) -> bool
     ensures { result ≡ same_kind a b }
 {
-    match a {
-        Kind::Pure => match b {
-            Kind::Pure => true,
-            Kind::Resource => false,
-        },
-        Kind::Resource => match b {
-            Kind::Pure => false,
-            Kind::Resource => true,
-        },
-    }
-}
-
-// A member is this method.
-fn same_method(name: u16, argument: u16, res: u16, b: Member) -> bool
-    ensures { result ≡ same_member (Member.Method name argument res) b }
-{
-    match b {
-        Member::Method {
-            name: n,
-            argument: p,
-            result: q,
-        } => {
-            if name == n {
-                if argument == p {
-                    return res == q;
-                }
-            }
-            return false;
-        }
-        Member::Field { name: _, row: _ } => {
-            return false;
-        }
-    }
-}
-
-// A member is this field.
-fn same_field(name: u16, row: u16, b: Member) -> bool
-    ensures { result ≡ same_member (Member.Field name row) b }
-{
-    match b {
-        Member::Field { name: n, row: p } => {
-            if name == n {
-                return row == p;
-            }
-            return false;
-        }
-        Member::Method {
-            name: _,
-            argument: _,
-            result: _,
-        } => {
-            return false;
-        }
-    }
+    a == b
 }
 
 // Two members are the same.
 pub fn same_member(a: Member, b: Member) -> bool
     ensures { result ≡ same_member a b }
 {
-    match a {
-        Member::Method {
-            name,
-            argument,
-            result,
-        } => same_method(name, argument, result, b),
-        Member::Field { name, row } => same_field(name, row, b),
-    }
+    a == b
 }
 
 // The first members of two rows are the same.
@@ -87,14 +27,12 @@ fn same_members(work: &[u16], a: usize, b: usize, count: usize) -> bool
     requires { (a < 64) × (b < 64) × (count ≤ 8) × (work_size ≤ length work.now) }
     ensures { result ≡ same_members (members_in work.now a count) (members_in work.now b count) }
 {
-    let mut j = 0;
-    while j < count {
+    for j in 0..count {
         let x = table::rows::member(work, a, j);
         let y = table::rows::member(work, b, j);
         if !same_member(x, y) {
             return false;
         }
-        j = j + 1;
     }
     true
 }
@@ -123,12 +61,10 @@ pub fn has_twin(work: &[u16], i: usize) -> bool
     requires { (i < 64) × (cell_of work.now (member_count_address i) ≤ 8) × (work_size ≤ length work.now) }
     ensures { result ≡ twin (rows_in work.now i) (row_in work.now i) }
 {
-    let mut k = 0;
-    while k < i {
+    for k in 0..i {
         if same_row(work, k, i) {
             return true;
         }
-        k = k + 1;
     }
     false
 }

@@ -9,62 +9,43 @@ ghost use Rattle.table.specs.Layout.{work_size};
 ghost use Rattle.question.specs.Asked.{ToldAlone};
 ghost use Rattle.run_question.specs.Asked.{RunAsked, BoundAsked};
 
-use bound_rules::BoundReply;
-use machine_rules::RunReply;
-use sheet_rules::{Reason, Verdict};
-
-// The run of a text's sheet, in a work buffer that is long enough.
-fn run_text(text: &[u8], budget: u32, work: &mut [u16]) -> RunReply
-    requires { work_size ≤ length work.old }
-    ensures { ToldAlone (run_reply text.now budget) work.old work.new result }
-{
-    let judged = verdict_question::judge_text(text, work);
-    match judged {
-        Verdict::Accepted => RunReply::Ran {
-            answer: machine::answer_sheet(work, budget),
-        },
-        Verdict::Refused { reason, line } => RunReply::Refused { reason, line },
-    }
-}
+use machine_rules::RunAnswer;
+use sheet_rules::{Reason, Refusal};
+use table::sheet::Sheet;
+use verdict_question::judge_text;
 
 // The run of a text's sheet within a budget: its answer, or a refusal from 1 to 10 with its line.
-pub fn ask_run(text: &[u8], budget: u32, work: &mut [u16]) -> RunReply
+pub fn ask_run(text: &[u8], budget: u32, work: &mut [u16]) -> Result<RunAnswer, Refusal>
     ensures { RunAsked text.now budget work.old work.new result }
 {
-    if !question::enough(work.len(), 0, 0) {
-        return RunReply::Refused {
-            reason: Reason::BufferTooShort,
-            line: 0,
-        };
-    }
-    let reply = run_text(text, budget, work);
-    question::clear(work);
-    reply
-}
-
-// The bound of a text's sheet, in a work buffer that is long enough.
-fn bound_text(text: &[u8], work: &mut [u16]) -> BoundReply
-    requires { work_size ≤ length work.old }
-    ensures { ToldAlone (bound_reply text.now) work.old work.new result }
-{
-    let judged = verdict_question::judge_text(text, work);
-    match judged {
-        Verdict::Accepted => bound::bound_sheet(work),
-        Verdict::Refused { reason, line } => BoundReply::Refused { reason, line },
-    }
+    let short = Err(Reason::BufferTooShort.at(0));
+    question::ask(
+        work,
+        short,
+        |work: &mut [u16]| -> Result<RunAnswer, Refusal>
+            requires { work_size ≤ length work.now }
+            ensures { ToldAlone (run_reply text.entry.now budget) work.entry.now work.exit.now result }
+        {
+            judge_text(text, work).told()?;
+            Ok(machine::answer_sheet(work, budget))
+        },
+    )
 }
 
 // The most steps that a run of a text's sheet can need, or a refusal, 1 to 10, 12 or 13, with its line.
-pub fn ask_bound(text: &[u8], work: &mut [u16]) -> BoundReply
+pub fn ask_bound(text: &[u8], work: &mut [u16]) -> Result<u32, Refusal>
     ensures { BoundAsked text.now work.old work.new result }
 {
-    if !question::enough(work.len(), 0, 0) {
-        return BoundReply::Refused {
-            reason: Reason::BufferTooShort,
-            line: 0,
-        };
-    }
-    let reply = bound_text(text, work);
-    question::clear(work);
-    reply
+    let short = Err(Reason::BufferTooShort.at(0));
+    question::ask(
+        work,
+        short,
+        |work: &mut [u16]| -> Result<u32, Refusal>
+            requires { work_size ≤ length work.now }
+            ensures { ToldAlone (bound_reply text.entry.now) work.entry.now work.exit.now result }
+        {
+            judge_text(text, work).told()?;
+            bound::bound_sheet(&Sheet::of(work))
+        },
+    )
 }

@@ -31,48 +31,31 @@ fn read_input<R: Read>(input: &mut R, text: &mut [u8]) -> io::Result<usize>
     ensures filled { IfOk result (λ n. n ≤ length text.new) }
     ensures whole { length text.new ≡ length text.old }
 {
-    let mut n: usize = 0;
+    let mut n = 0;
+    // No `for`: how many bytes a read brings is the reader's to say.
     while n < text.len() {
         let more = input.read(&mut text[n..])?;
         if more == 0 {
             return Ok(n);
         }
-        n = n + more;
+        n += more;
     }
     skip_rest(input)?;
     Ok(n)
 }
 
-// The buffers, each with its length, which lending it as a slice needs.
-fn text_buffer() -> [u8; 65536]
-    ensures { 65536 ≡ length result }
+// A buffer of N numbers or bytes, all `zero`. Lending it as a slice needs its length.
+fn buffer<T: Copy, const N: usize>(zero: T) -> [T; N]
+    ensures { N ≡ length result }
 {
-    [0; 65536]
-}
-
-fn work_buffer() -> [u16; 32768]
-    ensures { 32768 ≡ length result }
-{
-    [0; 32768]
-}
-
-fn number_buffer() -> [u16; 66306]
-    ensures { 66306 ≡ length result }
-{
-    [0; 66306]
-}
-
-fn out_buffer() -> [u8; 729472]
-    ensures { 729472 ≡ length result }
-{
-    [0; 729472]
+    [zero; N]
 }
 
 fn main(rt: HostRuntime) -> ExitCode {
-    let mut text = text_buffer();
-    let mut work = work_buffer();
-    let mut numbers = number_buffer();
-    let mut out = out_buffer();
+    let mut text: [u8; 65536] = buffer(0);
+    let mut work: [u16; 32768] = buffer(0);
+    let mut numbers: [u16; 66306] = buffer(0);
+    let mut out: [u8; 729472] = buffer(0);
     match read_input(&mut rt.stdin(), &mut text) {
         Ok(n) => {
             let length = print_report(&text[..n], 10000, &mut work, &mut numbers, &mut out);
@@ -87,8 +70,6 @@ fn main(rt: HostRuntime) -> ExitCode {
 
 // Says on standard error what failed. Where that fails too, nothing is left to say it to.
 fn failed(rt: &impl Eprint, what: &str, error: io::Error) -> ExitCode {
-    match eprintln!(rt; "{what}: {error}") {
-        Ok(()) => ExitCode::FAILURE,
-        Err(_) => ExitCode::FAILURE,
-    }
+    let _ = eprintln!(rt; "{what}: {error}");
+    ExitCode::FAILURE
 }

@@ -6,7 +6,9 @@ use mathlib.Core.Path.{◌≡◌, refl}
 use mathlib.Core.List.{List, [], ◌∷◌, map, flatten}
 use lib.ListN.{length, take}
 use Rattle.lists.specs.BeforeNth.{before_nth}
-use Rattle.sheet_rules.specs.declared.FormReply.{FormReply}
+use Rattle.sheet_rules.specs.declared.FormLines.{FormLines}
+use Rattle.sheet_rules.specs.declared.Refusal.{Refusal}
+use Rattle.std.specs.declared.result.Result.{Result}
 use Rattle.sheet_rules.specs.Stretch.{text_lines, begins, form_reply, reply_number, reply_line, stretch_start, stretch_length}
 use Rattle.sheet_rules.specs.Samples.{text_of, with_line, P, D}
 use Rattle.sheet_rules.proofs.Opened.{reading}
@@ -64,7 +66,7 @@ cases =
     ∷ refuses [] 0 3 1
     ∷ []
 
-abbrev numbers : FormReply → List ℕ
+abbrev numbers : Result FormLines Refusal → List ℕ
 numbers r = reply_number r ∷ reply_line r ∷ stretch_start r ∷ stretch_length r ∷ []
 
 pub all : map (λ c. numbers (form_reply c.text c.form)) cases ≡ map (λ c. c.wanted) cases

@@ -13,20 +13,22 @@ use Rattle.lists.specs.BeforeNth.{before_nth}
 use Rattle.lists.proofs.BeforeNthLaws.{nth_here, nth_later, nth_none, nth_map}
 use Rattle.lists.proofs.EachLaws.{Each-follows}
 use Rattle.lists.proofs.Tests.{and_right, T→true}
-use Rattle.sheet_rules.specs.declared.FormReply.{FormReply}
-use Rattle.sheet_rules.specs.declared.FormReply.TheVariants.{Lines, Refused}
+use Rattle.sheet_rules.specs.declared.FormLines.{FormLines}
+use Rattle.sheet_rules.specs.declared.Refusal.{Refusal}
+use Rattle.std.specs.declared.result.Result.{Result}
+use Rattle.std.specs.declared.result.Result.TheVariants.{Ok, Err}
 use Rattle.sheet_rules.specs.declared.MemberKind.{MemberKind}
 use Rattle.sheet_rules.specs.declared.Operation.{Operation}
 use Rattle.sheet_rules.specs.declared.Place.{Place}
 use Rattle.sheet_rules.specs.declared.Reason.{Reason}
 use Rattle.sheet_rules.specs.declared.Reason.TheVariants.{BufferTooShort, TextTooLong, Malformed, OutOfLimit, NotAscending, DuplicateRow, NotDefined, ImpureForm, NoSuchMember, Misfit, NoHolder, CircularCall, BeyondCount, WrongDevice}
-use Rattle.sheet_rules.specs.Answers.{number_of}
+use Rattle.sheet_rules.specs.Answers.{number_of, turned_away}
 use Rattle.sheet_rules.specs.Keys.{bytes}
 use Rattle.sheet_rules.specs.Lines.{Line, line}
 use Rattle.sheet_rules.specs.Sheet.{Instr, Form, Sheet, no_form, form_at}
 use Rattle.sheet_rules.specs.Reading.{Meaning, readable, unreadable, meaning}
 use Rattle.sheet_rules.specs.Print.{instr_written, form_written, forms_written, device_written, devices_written, main_written, before_forms, after_forms, sheet_written, line_bytes, lines_bytes, print}
-use Rattle.sheet_rules.specs.Stretch.{text_lines, begins, form_border, form_lines, form_stretch, form_in, form_on, form_reply, stretch_start, stretch_length, lines_before, lines_after, Shows}
+use Rattle.sheet_rules.specs.Stretch.{text_lines, begins, form_border, form_lines, form_stretch, form_in, form_on, stretch, form_reply, stretch_start, stretch_length, lines_before, lines_after, Shows}
 use Rattle.sheet_rules.proofs.PrintLines.{has_key, standing}
 use Rattle.sheet_rules.proofs.PrintLaws.{forms_snoc}
 use Rattle.sheet_rules.proofs.RoundTrip.{is_border, Inner, before_inner, after_first, form_inner, readable-print}
@@ -121,17 +123,17 @@ number_some WrongDevice = omega arith
 -- in a sheet: the form is there, or not
 module _ (text : List ℕ) (s : Sheet) (f : ℕ) where
   pub there_in : f < length s.forms → form_in text s f ≡ form_stretch f (text_lines text)
-  there_in h = ap (λ (b : Bool). cond b (form_stretch f (text_lines text)) (Refused NotDefined 0)) (lt-ltb f (length s.forms) h)
+  there_in h = ap (λ (b : Bool). cond b (form_stretch f (text_lines text)) (turned_away NotDefined 0)) (lt-ltb f (length s.forms) h)
 
-  pub missing_in : length s.forms ≤ f → form_in text s f ≡ Refused NotDefined 0
-  missing_in h = ap (λ (b : Bool). cond b (form_stretch f (text_lines text)) (Refused NotDefined 0)) (le-ltb f (length s.forms) h)
+  pub missing_in : length s.forms ≤ f → form_in text s f ≡ turned_away NotDefined 0
+  missing_in h = ap (λ (b : Bool). cond b (form_stretch f (text_lines text)) (turned_away NotDefined 0)) (le-ltb f (length s.forms) h)
 
 module _ (text : List ℕ) (f : ℕ) where
-  pub refused_read : {r : Reason} {n : ℕ} → meaning text ≡ unreadable r n → form_reply text f ≡ Refused r n
+  pub refused_read : {r : Reason} {n : ℕ} → meaning text ≡ unreadable r n → form_reply text f ≡ turned_away r n
   unfolding form_reply
   refused_read e = ap (λ (m : Meaning). form_on text m f) e
 
-  pub missing_form : {s : Sheet} → meaning text ≡ readable s → length s.forms ≤ f → form_reply text f ≡ Refused NotDefined 0
+  pub missing_form : {s : Sheet} → meaning text ≡ readable s → length s.forms ≤ f → form_reply text f ≡ turned_away NotDefined 0
   unfolding form_reply
   missing_form {s} e h = ap (λ (m : Meaning). form_on text m f) e ∙ missing_in text s f h
 
@@ -187,11 +189,11 @@ module _ (text : List ℕ) (s : Sheet) (e : meaning text ≡ readable s) where
         ∙ ap (λ (zs : List ℕ). lines_bytes (lines_before s f) ++ zs) (lines_both (form_written (form_at s f)) (lines_after s f))
 
     -- a form that is there is given
-    pub form_given : form_reply text f ≡ Lines (length (lines_bytes (lines_before s f))) (length (lines_bytes (form_written (form_at s f))))
+    pub form_given : form_reply text f ≡ Ok (stretch (length (lines_bytes (lines_before s f))) (length (lines_bytes (form_written (form_at s f)))))
     unfolding form_reply
     form_given =
         ap (λ (m : Meaning). form_on text m f) e ∙ there_in text s f h
-        ∙ (λ i. Lines (length (flatten (text_before f (omega arith) i))) (length (flatten (text_own i))))
+        ∙ (λ i. Ok (stretch (length (flatten (text_before f (omega arith) i))) (length (flatten (text_own i)))))
 
     shown : Shows text f (length (lines_bytes (lines_before s f))) (length (lines_bytes (form_written (form_at s f))))
     shown =
@@ -211,37 +213,41 @@ module _ (text : List ℕ) (s : Sheet) (e : meaning text ≡ readable s) where
               ∙ ap (drop (length own)) (drop-append_seam front (own ++ rest)) ∙ drop-append_seam own rest;
         }
 
--- what is answered: the form's place, where it is there, or a refusal
-data Answered (text : List ℕ) (f : ℕ) : FormReply → Type 0 where
-  given : (s : Sheet) → meaning text ≡ readable s → f < length s.forms
-      → Answered text f (Lines (length (lines_bytes (lines_before s f))) (length (lines_bytes (form_written (form_at s f)))))
-  turned_away : {r : Reason} {n : ℕ} → Answered text f (Refused r n)
+-- and is a part of the text
+shown_within : (text : List ℕ) {s : Sheet} → meaning text ≡ readable s → (f : ℕ) → f < length s.forms
+    → length (lines_bytes (lines_before s f)) + length (lines_bytes (form_written (form_at s f))) ≤ length text
+shown_within text {s} e f h =
+    let own : List ℕ = lines_bytes (form_written (form_at s f)) in
+    let rest : List ℕ = lines_bytes (lines_after s f) in
+    omega (arith, ap length (text_parts text s e f h), length-append (lines_bytes (lines_before s f)) (own ++ rest), length-append own rest)
+
+-- what is answered: a part of the text that shows the form, or a refusal
+data Answered (text : List ℕ) (f : ℕ) : Result FormLines Refusal → Type 0 where
+  given : {p : FormLines} → Shows text f p.start p.length → p.start + p.length ≤ length text → Answered text f (Ok p)
+  refused : {e : Refusal} → Answered text f (Err e)
 
 answered : (text : List ℕ) (f : ℕ) → Answered text f (form_reply text f)
 answered text f = go (meaning text) refl
   where
     go : (m : Meaning) → meaning text ≡ m → Answered text f (form_reply text f)
-    go (unreadable r n) e = subst (Answered text f) (sym (refused_read text f e)) turned_away
+    go (unreadable r n) e = subst (Answered text f) (sym (refused_read text f e)) refused
     go (readable s) e = there (dec_lt f (length s.forms))
       where
         there : Dec (f < length s.forms) → Answered text f (form_reply text f)
-        there (yes h) = subst (Answered text f) (sym (form_given text s e f h)) (given s e h)
-        there (no h) = subst (Answered text f) (sym (missing_form text f e (omega (arith, h)))) turned_away
+        there (yes h) = subst (Answered text f) (sym (form_given text s e f h)) (given (shown text s e f h) (shown_within text e f h))
+        there (no h) = subst (Answered text f) (sym (missing_form text f e (omega (arith, h)))) refused
 
 -- whatever the text and the number, what is given shows that form of the sheet that the text means
-pub form_shown : (text : List ℕ) (f : ℕ) {start size : ℕ} → form_reply text f ≡ Lines start size → Shows text f start size
+pub form_shown : (text : List ℕ) (f : ℕ) {start size : ℕ} → form_reply text f ≡ Ok (stretch start size) → Shows text f start size
 form_shown text f e = go (subst (Answered text f) e (answered text f))
   where
-    go : {start size : ℕ} → Answered text f (Lines start size) → Shows text f start size
-    go (given s e h) = shown text s e f h
+    go : {p : FormLines} → Answered text f (Ok p) → Shows text f p.start p.length
+    go (given x _) = x
 
 -- and is a part of the text
 pub given_within : (text : List ℕ) (f : ℕ) → stretch_start (form_reply text f) + stretch_length (form_reply text f) ≤ length text
 given_within text f = go (answered text f)
   where
-    go : {r : FormReply} → Answered text f r → stretch_start r + stretch_length r ≤ length text
-    go turned_away = omega arith
-    go (given s e h) =
-        let own : List ℕ = lines_bytes (form_written (form_at s f)) in
-        let rest : List ℕ = lines_bytes (lines_after s f) in
-        omega (arith, ap length (text_parts text s e f h), length-append (lines_bytes (lines_before s f)) (own ++ rest), length-append own rest)
+    go : {r : Result FormLines Refusal} → Answered text f r → stretch_start r + stretch_length r ≤ length text
+    go refused = omega arith
+    go (given x within) = within

@@ -2,9 +2,12 @@
 -- on the shared types.
 use Rattle.std.specs.Prelude.{ℕ, Bool, true, false}
 use Rattle.std.proofs.Math.Option.{Option, none, some}
+use Rattle.std.specs.declared.result.Result.{Result}
+use Rattle.std.specs.declared.result.Result.TheVariants.{Ok, Err}
 use Rattle.sheet_rules.specs.declared.Lack.{Lack}
 use Rattle.sheet_rules.specs.declared.Reason.{Reason}
 use Rattle.sheet_rules.specs.declared.Reason.TheVariants.{BufferTooShort, TextTooLong, Malformed, OutOfLimit, NotAscending, DuplicateRow, NotDefined, ImpureForm, NoSuchMember, Misfit, NoHolder, CircularCall, BeyondCount, WrongDevice}
+use Rattle.sheet_rules.specs.declared.Refusal.{Refusal}
 use Rattle.sheet_rules.specs.declared.Verdict.{Verdict}
 use Rattle.sheet_rules.specs.declared.Verdict.TheVariants.{Accepted, Refused}
 use Rattle.sheet_rules.specs.declared.FitAnswer.{FitAnswer}
@@ -50,6 +53,24 @@ verdict_number (Refused r n) = number_of r
 abbrev pub verdict_line : Verdict → ℕ
 verdict_line Accepted = 0
 verdict_line (Refused r n) = n
+
+-- a refusal, of its reason and its line
+abbrev pub refusal : Reason → ℕ → Refusal
+refusal r n = record { reason = r; line = n }
+
+-- the answer of a call that is refused with a reason and a line
+abbrev pub turned_away : {A : Type 0} → Reason → ℕ → Result A Refusal
+turned_away r n = Err (refusal r n)
+
+-- a verdict as what is told of it: nothing, or its refusal
+abbrev pub verdict_told : Verdict → Result Unit Refusal
+verdict_told Accepted = Ok tt
+verdict_told (Refused r n) = turned_away r n
+
+-- the verdict of an answer: accepted where there is one, and else its refusal
+abbrev pub verdict_from : {A : Type 0} → Result A Refusal → Verdict
+verdict_from (Ok a) = Accepted
+verdict_from (Err e) = Refused e.reason e.line
 
 -- what is lacking by a refusal: only a misfit says it (document 02, order 3)
 abbrev pub reason_lack : Reason → Option Lack

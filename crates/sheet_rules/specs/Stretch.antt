@@ -4,15 +4,17 @@ use Rattle.std.specs.Prelude.{ℕ, suc, ◌+◌, ◌<◌, ◌≡◌, Bool, true,
 use mathlib.Core.List.{List, [], ◌∷◌, ◌++◌, flatten}
 use Rattle.std.proofs.Math.Option.{Option, none}
 use Rattle.lists.specs.BeforeNth.{before_nth}
-use Rattle.sheet_rules.specs.declared.FormReply.{FormReply}
-use Rattle.sheet_rules.specs.declared.FormReply.TheVariants.{Lines, Refused}
+use Rattle.sheet_rules.specs.declared.FormLines.{FormLines}
+use Rattle.sheet_rules.specs.declared.Refusal.{Refusal}
+use Rattle.std.specs.declared.result.Result.{Result}
+use Rattle.std.specs.declared.result.Result.TheVariants.{Ok, Err}
 use Rattle.sheet_rules.specs.declared.Lack.{Lack}
 use Rattle.sheet_rules.specs.declared.Place.{Place}
 use Rattle.sheet_rules.specs.declared.Reason.TheVariants.{NotDefined}
 use Rattle.sheet_rules.specs.Lines.{newline, in_front, Line}
 use Rattle.sheet_rules.specs.Sheet.{Sheet, form_at}
 use Rattle.sheet_rules.specs.Reading.{Meaning, readable, unreadable, meaning}
-use Rattle.sheet_rules.specs.Answers.{number_of, reason_lack}
+use Rattle.sheet_rules.specs.Answers.{number_of, reason_lack, turned_away}
 use Rattle.sheet_rules.specs.Print.{form_written, forms_written, before_forms, after_forms, key_text, lines_bytes}
 
 -- the lines of a text as they stand in it, each with the byte 10 that ends it (order 2)
@@ -39,46 +41,50 @@ form_border l = begins (key_text Place.Form) l || ends_forms l
 abbrev pub form_lines : ℕ → List (List ℕ) → List (List ℕ)
 form_lines f ls = drop (length (before_nth form_border f ls)) (before_nth form_border (suc f) ls)
 
+-- a part of a text: where it begins, and how many bytes it has
+abbrev pub stretch : ℕ → ℕ → FormLines
+stretch start size = record { start = start; length = size }
+
 -- their stretch: the bytes before them, and their own, counted (order 2)
-abbrev pub form_stretch : ℕ → List (List ℕ) → FormReply
-form_stretch f ls = Lines (length (flatten (before_nth form_border f ls))) (length (flatten (form_lines f ls)))
+abbrev pub form_stretch : ℕ → List (List ℕ) → Result FormLines Refusal
+form_stretch f ls = Ok (stretch (length (flatten (before_nth form_border f ls))) (length (flatten (form_lines f ls))))
 
 -- the form is there: its stretch of the text; a form number that is not there is refused at line 0 (order 2)
-abbrev pub form_in : List ℕ → Sheet → ℕ → FormReply
-form_in text s f = cond (ltb f (length s.forms)) (form_stretch f (text_lines text)) (Refused NotDefined 0)
+abbrev pub form_in : List ℕ → Sheet → ℕ → Result FormLines Refusal
+form_in text s f = cond (ltb f (length s.forms)) (form_stretch f (text_lines text)) (turned_away NotDefined 0)
 
 -- the sheet only has to be readable (order 2)
-abbrev pub form_on : List ℕ → Meaning → ℕ → FormReply
+abbrev pub form_on : List ℕ → Meaning → ℕ → Result FormLines Refusal
 form_on text (readable s) f = form_in text s f
-form_on text (unreadable r n) f = Refused r n
+form_on text (unreadable r n) f = turned_away r n
 
 -- what the question for one form's lines answers (order 2)
-unfoldable pub form_reply : List ℕ → ℕ → FormReply
+unfoldable pub form_reply : List ℕ → ℕ → Result FormLines Refusal
 form_reply text f = form_on text (meaning text) f
 
 -- the number and the line of a refusal: 0 and 0 when a part of the text is given (order 2)
-abbrev pub reply_number : FormReply → ℕ
-reply_number (Lines start length) = 0
-reply_number (Refused r n) = number_of r
+abbrev pub reply_number : Result FormLines Refusal → ℕ
+reply_number (Ok p) = 0
+reply_number (Err e) = number_of e.reason
 
-abbrev pub reply_line : FormReply → ℕ
-reply_line (Lines start length) = 0
-reply_line (Refused r n) = n
+abbrev pub reply_line : Result FormLines Refusal → ℕ
+reply_line (Ok p) = 0
+reply_line (Err e) = e.line
 
 -- what is lacking by a reply; the question stops after reading, so it never is a misfit (document 02, order 3)
-abbrev pub reply_lack : FormReply → Option Lack
-reply_lack (Lines start length) = none
-reply_lack (Refused r n) = reason_lack r
+abbrev pub reply_lack : Result FormLines Refusal → Option Lack
+reply_lack (Ok p) = none
+reply_lack (Err e) = reason_lack e.reason
 
 -- where the part that is given begins in the text; after a refusal it is the empty part at the text's start (order 2)
-abbrev pub stretch_start : FormReply → ℕ
-stretch_start (Lines start length) = start
-stretch_start (Refused r n) = 0
+abbrev pub stretch_start : Result FormLines Refusal → ℕ
+stretch_start (Ok p) = p.start
+stretch_start (Err e) = 0
 
 -- how many bytes it has: none after a refusal (order 2)
-abbrev pub stretch_length : FormReply → ℕ
-stretch_length (Lines start length) = length
-stretch_length (Refused r n) = 0
+abbrev pub stretch_length : Result FormLines Refusal → ℕ
+stretch_length (Ok p) = p.length
+stretch_length (Err e) = 0
 
 -- THE FORM THAT IT SHOWS
 

@@ -1,5 +1,5 @@
 -- Notes on a form's parts, on a form and on all forms, and what leaves them as they are. Assumes nothing.
-use Prim.Native.Nat.{ℕ, suc, ◌+◌, ◌-◌, ◌≤◌, ◌<◌}
+use Prim.Native.Nat.{ℕ, suc, ◌+◌, ◌≤◌, ◌<◌}
 use native.Mathlib.Omega.{arith}
 use native.Mathlib.Decide.{dec_le}
 use mathlib.Core.Path.{◌≡◌, sym, ap, ◌∙◌, subst}
@@ -10,12 +10,10 @@ use Rattle.lists.specs.AnyAll.{any}
 use Rattle.lists.specs.Tab.{tab}
 use Rattle.lists.proofs.AnyAllLaws.{any-tab}
 use Rattle.lists.proofs.TabLaws.{length-tab}
-use Rattle.sheet_rules.specs.Sheet.{Part, Sheet, code_names, part_names, form_names, form_at}
-use Rattle.table.specs.declared.forms.PartPlace.{PartPlace}
+use Rattle.sheet_rules.specs.Sheet.{Part, Sheet, part_names, form_names, form_at}
 use Rattle.table.specs.Layout.{part_count_address, table_end, marks_end, form_notes_address, notes_end}
 use Rattle.table.specs.Only.{Only}
-use Rattle.table.specs.Told.{part_told}
-use Rattle.table.specs.View.{cell, instrs_in, part_in, parts_in, sheet_in}
+use Rattle.table.specs.View.{cell, part_in, parts_in, sheet_in}
 use Rattle.table.specs.Whole.{Whole}
 use Rattle.table.proofs.SheetLaws.{forms_few, parts_are, parts-length, only_sheet, only_whole}
 use Rattle.table.proofs.ViewLaws.{Only-refl, Only-trans, Only-widen, part_in_same}
@@ -23,19 +21,6 @@ use Rattle.slot_notes.specs.Noted.{note_count, is_noted, Room, NotesCleared, Not
 use Rattle.slot_notes.proofs.NoteLaws.{Room-kept, notes_table, noted_below, noted_above, Noted-none, Noted-then, noted→afresh}
 
 -- A PART
-
--- part j of form f, that was read as y
-pub Noted-part : {at : ℕ} {w w' : List ℕ} (f j : ℕ) {x y : PartPlace} → part_told w x ≡ part_in w f j → x ≡ y
-    → Noted at w (part_names (part_told w y)) w' → Noted at w (part_names (part_in w f j)) w'
-Noted-part {at} {w} {w'} f j told e n = subst (λ (p : Part). Noted at w (part_names p) w') (ap (part_told w) (sym e) ∙ told) n
-
--- a body, by the numbers that were read of it
-pub Noted-body : {at : ℕ} {w w' : List ℕ} {a b c start count : ℕ} → a ≡ start → b ≡ start → c ≡ count
-    → Noted at w (code_names (instrs_in w a (b + c - a))) w' → Noted at w (code_names (instrs_in w start count)) w'
-Noted-body {at} {w} {w'} {a} {b} {c} {start} {count} ea eb ec n =
-    let e : b + c - a ≡ count = omega arith in
-    subst (λ (p : ℕ). Noted at w (code_names (instrs_in w p count)) w') ea
-    (subst (λ (k : ℕ). Noted at w (code_names (instrs_in w a k)) w') e n)
 
 -- THE PARTS OF A FORM
 

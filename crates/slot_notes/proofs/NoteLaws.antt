@@ -1,14 +1,12 @@
 -- Notes that are cleared and set: of a slot, of an instruction, of a code. Assumes nothing.
-use Prim.Native.Nat.{ℕ, suc, ◌+◌, ◌-◌, ◌≤◌, ◌<◌, min}
+use Prim.Native.Nat.{ℕ, ◌+◌, ◌-◌, ◌≤◌, ◌<◌, min}
 use native.Mathlib.Omega.{arith}
-use native.Mathlib.Decide.{dec_le, ℕ_discrete}
 use mathlib.Core.Path.{◌≡◌, sym, ap, ◌∙◌, subst}
-use mathlib.Core.Bool.{Bool, false, ◌||◌, or-true, or-false, or_assoc}
+use mathlib.Core.Bool.{Bool, false, ◌||◌, or-false, or_assoc}
 use mathlib.Core.List.{List, [], ◌∷◌}
 use lib.Dec.{eqb}
-use lib.ListN.{length, get_or, set, take}
-use lib.Seq.{get_or-set_same, get_or-set_other, take_all}
-use borrow.Author.Tests.{eq-eqb, ne_eqb}
+use lib.ListN.{length, get_or, take}
+use lib.Seq.{take_all}
 use Rattle.lists.specs.Tab.{tab}
 use Rattle.lists.specs.AnyAll.{any}
 use Rattle.lists.specs.Contains.{contains}
@@ -20,7 +18,7 @@ use Rattle.table.specs.Layout.{code_notes_at, work_size}
 use Rattle.table.specs.Told.{new_slots, instr_told}
 use Rattle.table.specs.View.{instr_in, instrs_in}
 use Rattle.table.specs.Only.{Only}
-use Rattle.table.proofs.ViewLaws.{SameTable, only→same, Only-refl, Only-trans, Only-set, instr_in_same, instrs_in_same, new_slots_same}
+use Rattle.table.proofs.ViewLaws.{SameTable, only→same, Only-refl, Only-trans, instr_in_same, instrs_in_same, new_slots_same}
 use Rattle.table.proofs.InstrLaws.{instr_within}
 use Rattle.slot_notes.specs.Noted.{note_count, is_noted, Room, NotesOnly, NotesCleared, Noted, NotedAfresh, CodeNoted}
 
@@ -41,45 +39,6 @@ module _ {lo hi : ℕ} {w w' : List ℕ} (o : Only lo hi w w') (at v : ℕ) wher
 
   pub noted_above : hi ≤ at + v → is_noted w' at v ≡ is_noted w at v
   noted_above h = ap (λ (x : ℕ). eqb x 1) (o.above (at + v) h)
-
--- ONE NUMBER SET
-
-module _ {at v : ℕ} {w : List ℕ} (r : Room at w) (h : v < note_count) (x : ℕ) where
-  set_only : NotesOnly at w (set w (at + v) x)
-  set_only = Only-set at (at + note_count) w (at + v) x (omega arith) (omega arith)
-
-  set_here : {u : ℕ} → v ≡ u → is_noted (set w (at + v) x) at u ≡ eqb x 1
-  set_here e =
-      ap (is_noted (set w (at + v) x) at) (sym e)
-      ∙ ap (λ (y : ℕ). eqb y 1) (get_or-set_same w (at + v) x 0 (omega (arith, r.inside, r.size)))
-
-  set_there : {u : ℕ} → (v ≡ u → ⊥) → is_noted (set w (at + v) x) at u ≡ is_noted w at u
-  set_there {u} d = ap (λ (y : ℕ). eqb y 1) (get_or-set_other w (at + v) (at + u) x 0 (λ e. d (omega arith)))
-
--- CLEARED
-
--- the first n notes are cleared
-pub record Clearing (at : ℕ) (w w' : List ℕ) (n : ℕ) : Type 0 where
-  pub only : NotesOnly at w w'
-  pub told : (v : ℕ) → v < n → is_noted w' at v ≡ false
-
-pub Clearing-start : (at : ℕ) (w : List ℕ) → Clearing at w w 0
-Clearing-start at w = record { only = Only-refl at (at + note_count) w; told = λ v h. absurd (omega arith) }
-
-pub Clearing-next : {at : ℕ} {w w₁ : List ℕ} {n : ℕ} → Room at w → Clearing at w w₁ n → n < note_count
-    → Clearing at w (set w₁ (at + n) 0) (n + 1)
-Clearing-next {at} {w} {w₁} {n} r c h =
-    record { only = Only-trans c.only (set_only r₁ h 0); told = λ v k. go v k (dec_le (suc v) n) }
-  where
-    r₁ : Room at w₁
-    r₁ = Room-kept r c.only
-
-    go : (v : ℕ) → v < n + 1 → Dec (suc v ≤ n) → is_noted (set w₁ (at + n) 0) at v ≡ false
-    go v k (yes l) = set_there r₁ h 0 (λ e. omega arith) ∙ c.told v l
-    go v k (no l) = set_here r₁ h 0 (omega arith)
-
-pub Clearing-end : {at : ℕ} {w w' : List ℕ} {n : ℕ} → Clearing at w w' n → note_count ≤ n → NotesCleared at w w'
-Clearing-end c l = record { only = c.only; told = λ v h. c.told v (omega arith) }
 
 -- NOTED
 
@@ -111,23 +70,6 @@ noted→afresh {p = p} c n e =
       only = Only-trans c.only n.only;
       told = λ v h. n.told v h ∙ ap (λ (t : Bool). t || p v) (c.told v h) ∙ e v;
     }
-
--- noting v adds nothing to the note of another slot
-other_slot : (at v u : ℕ) (w : List ℕ) → (v ≡ u → ⊥) → is_noted w at u ≡ (is_noted w at u || eqb v u)
-other_slot at v u w d = sym (ap (λ (t : Bool). is_noted w at u || t) (ne_eqb v u d) ∙ or-false (is_noted w at u))
-
--- one slot, that a frame can have
-pub Noted-one : {at v : ℕ} {w : List ℕ} → Room at w → v < note_count → Noted at w (eqb v) (set w (at + v) 1)
-Noted-one {at} {v} {w} r h = record { only = set_only r h 1; told = λ u k. go u (ℕ_discrete v u) }
-  where
-    go : (u : ℕ) → Dec (v ≡ u) → is_noted (set w (at + v) 1) at u ≡ (is_noted w at u || eqb v u)
-    go u (yes e) = set_here r h 1 e ∙ sym (ap (λ (t : Bool). is_noted w at u || t) (eq-eqb v u e) ∙ or-true (is_noted w at u))
-    go u (no d) = set_there r h 1 d ∙ other_slot at v u w d
-
--- one that no frame has
-pub Noted-beyond : {at v : ℕ} {w : List ℕ} → note_count ≤ v → Noted at w (eqb v) w
-Noted-beyond {at} {v} {w} l =
-    record { only = Only-refl at (at + note_count) w; told = λ u h. other_slot at v u w (λ e. omega arith) }
 
 -- THE SLOTS OF A `new`
 

@@ -12,6 +12,7 @@ ghost use Rattle.slot_notes.specs.Noted.{Room, NotesCleared, Noted, NotedAfresh,
 
 use table::forms::PartPlace;
 use table::instrs::Instruction;
+use table::layout::{CODE_NOTES, FORM_NOTES, SLOT_COUNT};
 use table::rows::wide;
 
 // Where the notes of form f begin.
@@ -19,7 +20,7 @@ pub fn form_notes(f: usize) -> usize
     requires { f < 64 }
     ensures { (result ≡ form_notes_address f) × (result ≤ 30544) }
 {
-    27772 + 44 * f
+    FORM_NOTES + SLOT_COUNT * f
 }
 
 // No slot is noted.
@@ -27,11 +28,7 @@ fn clear_notes(work: &mut [u16], at: usize)
     requires { Room at work.old }
     ensures { NotesCleared at work.old work.new }
 {
-    let mut v: usize = 0;
-    while v < 44 {
-        work[at + v] = 0;
-        v = v + 1;
-    }
+    work[at..at + SLOT_COUNT].fill(0);
 }
 
 // Notes slot v, if it is one that a frame can have.
@@ -39,7 +36,7 @@ fn note(work: &mut [u16], at: usize, v: usize)
     requires { Room at work.old }
     ensures { Noted at work.old (eqb v) work.new }
 {
-    if v < 44 {
+    if v < SLOT_COUNT {
         work[at + v] = 1;
     }
 }
@@ -50,11 +47,9 @@ fn note_new(work: &mut [u16], at: usize, p: usize)
     ensures { Noted at work.old (contains (new_slots work.old p)) work.new }
 {
     let count = table::instrs::new_slot_count(work, p);
-    let mut k: usize = 0;
-    while k < count {
+    for k in 0..count {
         let v = wide(table::instrs::slot_named(work, p, k));
         note(work, at, v);
-        k = k + 1;
     }
 }
 
@@ -92,10 +87,8 @@ fn note_instrs(work: &mut [u16], at: usize, p: usize, end: usize)
     requires { Room at work.old }
     ensures { Noted at work.old (code_names (instrs_in work.old p (end - p))) work.new }
 {
-    let mut q = p;
-    while q < end {
+    for q in p..end {
         note_instr(work, at, q);
-        q = q + 1;
     }
 }
 
@@ -104,8 +97,8 @@ pub fn note_code(work: &mut [u16], p: usize, end: usize)
     requires { work_size ≤ length work.old }
     ensures { CodeNoted work.old (instrs_in work.old p (end - p)) work.new }
 {
-    clear_notes(work, 27728);
-    note_instrs(work, 27728, p, end);
+    clear_notes(work, CODE_NOTES);
+    note_instrs(work, CODE_NOTES, p, end);
 }
 
 // Notes the slots that part j of form f names.
@@ -127,10 +120,8 @@ fn note_parts(work: &mut [u16], at: usize, f: usize)
     ensures { Noted at work.old (form_names (form_at (sheet_in work.old) f)) work.new }
 {
     let count = table::forms::part_count(work, f);
-    let mut j: usize = 0;
-    while j < count {
+    for j in 0..count {
         note_part(work, at, f, j);
-        j = j + 1;
     }
 }
 
@@ -150,9 +141,7 @@ pub fn note_forms(work: &mut [u16])
     ensures { FormsNotedIn work.old (length (sheet_in work.old).forms) work.new }
 {
     let count = table::forms::form_count(work);
-    let mut f: usize = 0;
-    while f < count {
+    for f in 0..count {
         note_form(work, f);
-        f = f + 1;
     }
 }

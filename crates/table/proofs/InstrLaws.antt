@@ -1,4 +1,4 @@
--- The instruction at a place of the pool, its slots, and a part, by the numbers that the accessors read. Assumes nothing.
+-- The instruction at a place of the pool, and its slots, by the numbers that the accessors read. Assumes nothing.
 use Prim.Native.Nat.{ℕ, ◌+◌, ◌-◌, ◌≤◌, ◌<◌, min}
 use native.Mathlib.Omega.{arith}
 use mathlib.Core.Path.{◌≡◌, refl, sym, ap, ◌∙◌}
@@ -6,13 +6,13 @@ use mathlib.Core.Bool.{Bool, cond}
 use mathlib.Core.List.{List}
 use lib.ListN.{length, get_or, take, drop, length-take, length-drop, get_or-eq_default}
 use lib.Seq.{get_or-take, get_or-drop}
-use borrow.Author.Tests.{eq-eqb, ne_eqb}
+use borrow.Author.Tests.{ne_eqb}
 use Rattle.lists.specs.Tab.{tab}
 use Rattle.lists.proofs.TabLaws.{length-tab, get_or-tab}
-use Rattle.sheet_rules.specs.Sheet.{Instr, new, call, get, put, copy, init, body}
+use Rattle.sheet_rules.specs.Sheet.{Instr, new, call, get, put, copy}
 use Rattle.sheet_rules.specs.Reader.{nth}
-use Rattle.table.specs.Layout.{part_address, instr_address, slot_row_address}
-use Rattle.table.specs.View.{cell, numbers_in, instr_from, instr_in, instrs_in, part_from, part_in}
+use Rattle.table.specs.Layout.{instr_address, number_count_address, number_address, slot_row_address}
+use Rattle.table.specs.View.{cell, numbers_in, instr_from, instr_in}
 use Rattle.table.specs.Told.{new_slots, slot_rows_in}
 
 -- an instruction, read from its block's first place
@@ -54,55 +54,42 @@ module _ (w : List ℕ) (p b : ℕ) (place : b ≡ instr_address p) where
           (cond b (call (nth (numbers_in w p) 0) (nth (numbers_in w p) 1) (nth (numbers_in w p) 2))
           (cond c (get (nth (numbers_in w p) 0)) (cond d (put (nth (numbers_in w p) 0) (nth (numbers_in w p) 1)) (copy (nth (numbers_in w p) 0)))))
 
-  -- the slots of a `new`
+-- the slots of a `new`
 
-  pub slots_length : length (new_slots w p) ≡ min (cell w (b + 1)) 9 - 1
+module _ (w : List ℕ) (p : ℕ) where
+  pub slots_length : length (new_slots w p) ≡ min (cell w (number_count_address p)) 9 - 1
   unfolding new_slots
   slots_length =
-      length-drop 1 (take (cell w (instr_address p + 1)) (numbers_in w p))
-      ∙ ap (λ (n : ℕ). n - 1) (length-take (cell w (instr_address p + 1)) (numbers_in w p) ∙ ap (min (cell w (instr_address p + 1))) (length-tab (λ j. cell w (instr_address p + (2 + j))) 9))
-      ∙ ap (λ (x : ℕ). min (cell w (x + 1)) 9 - 1) (sym place)
+      length-drop 1 (take (cell w (number_count_address p)) (numbers_in w p))
+      ∙ ap (λ (n : ℕ). n - 1) (length-take (cell w (number_count_address p)) (numbers_in w p) ∙ ap (min (cell w (number_count_address p))) (length-tab (λ j. cell w (number_address p j)) 9))
 
-  pub slot_there : (k : ℕ) → k < length (new_slots w p) → cell w (b + (3 + k)) ≡ get_or (new_slots w p) k 0
+  pub slot_there : (k : ℕ) → k < length (new_slots w p) → cell w (instr_address p + (3 + k)) ≡ get_or (new_slots w p) k 0
   unfolding new_slots
   slot_there k h =
       let l = slots_length in
-      let e : b + (3 + k) ≡ b + (2 + (1 + k)) = omega arith in
-      ap (cell w) e ∙ number (1 + k) (omega arith)
-      ∙ sym (get_or-take (cell w (instr_address p + 1)) (numbers_in w p) (1 + k) 0 (let q : cell w (b + 1) ≡ cell w (instr_address p + 1) = ap (λ (x : ℕ). cell w (x + 1)) place in omega arith))
-      ∙ sym (get_or-drop 1 (take (cell w (instr_address p + 1)) (numbers_in w p)) k 0)
+      let e : instr_address p + (3 + k) ≡ number_address p (1 + k) = omega arith in
+      ap (cell w) e ∙ sym (get_or-tab (λ j. cell w (number_address p j)) 9 (1 + k) 0 (omega arith))
+      ∙ sym (get_or-take (cell w (number_count_address p)) (numbers_in w p) (1 + k) 0 (omega arith))
+      ∙ sym (get_or-drop 1 (take (cell w (number_count_address p)) (numbers_in w p)) k 0)
 
--- a place beyond the pool has the instruction of its last one
-pub instr_within : (w : List ℕ) (p : ℕ) → instr_in w (min p 1023) ≡ instr_in w p
-unfolding instr_in
-instr_within w p =
-    let e : instr_address (min p 1023) ≡ instr_address p = omega arith in
-    ap (λ (a : ℕ). instr_from (cell w a) (cell w (a + 1)) (tab (λ k. cell w (a + (2 + k))) 9)) e
+  -- a place beyond the pool has the instruction of its last one
+  same_place : instr_address (min p 1023) ≡ instr_address p
+  same_place = omega arith
+
+  pub instr_within : instr_in w (min p 1023) ≡ instr_in w p
+  unfolding instr_in
+  instr_within = ap (λ (a : ℕ). instr_from (cell w a) (cell w (a + 1)) (tab (λ k. cell w (a + (2 + k))) 9)) same_place
+
+  pub slots_within : new_slots w (min p 1023) ≡ new_slots w p
+  unfolding new_slots
+  slots_within = ap (λ (a : ℕ). drop 1 (take (cell w (a + 1)) (tab (λ k. cell w (a + (2 + k))) 9))) same_place
 
 pub slot_missing : (ss : List ℕ) (k : ℕ) → length ss ≤ k → 0 ≡ get_or ss k 0
 slot_missing ss k h = sym (get_or-eq_default ss 0 h)
 
 -- the row of a slot
-pub slot_row_there : (w : List ℕ) (filled v : ℕ) → filled ≤ 64 → v < filled → cell w (19984 + v) ≡ get_or (slot_rows_in w filled) v 0
-slot_row_there w filled v h l =
-    let e : 19984 + v ≡ slot_row_address v = omega arith in
-    ap (cell w) e ∙ sym (get_or-tab (λ i. cell w (slot_row_address i)) filled v 0 l)
+pub slot_row_there : (w : List ℕ) (filled v : ℕ) → filled ≤ 64 → v < filled → cell w (slot_row_address v) ≡ get_or (slot_rows_in w filled) v 0
+slot_row_there w filled v h l = sym (get_or-tab (λ i. cell w (slot_row_address i)) filled v 0 l)
 
 pub slot_row_missing : (w : List ℕ) (filled v : ℕ) → filled ≤ v → 0 ≡ get_or (slot_rows_in w filled) v 0
 slot_row_missing w filled v h = slot_missing (slot_rows_in w filled) v (omega (arith, length-tab (λ i. cell w (slot_row_address i)) filled))
-
-pub slot_row_address_lem : (v : ℕ) → v < 64 → 19984 + v ≡ slot_row_address v
-slot_row_address_lem v h = omega arith
-
--- a part, read from its block's first place
-
-module _ (w : List ℕ) (f j b : ℕ) (place : b ≡ part_address f j) where
-  part_here : part_from w (cell w b) (cell w (b + 1)) (cell w (b + 2)) ≡ part_in w f j
-  unfolding part_in
-  part_here = ap (λ (x : ℕ). part_from w (cell w x) (cell w (x + 1)) (cell w (x + 2))) place
-
-  pub part_init : cell w b ≡ 0 → init (cell w (b + 1)) ≡ part_in w f j
-  part_init e = sym (ap (λ (t : Bool). cond t (init (cell w (b + 1))) (body (instrs_in w (cell w (b + 1)) (cell w (b + 2))))) (eq-eqb (cell w b) 0 e)) ∙ part_here
-
-  pub part_body : (cell w b ≡ 0 → ⊥) → body (instrs_in w (cell w (b + 1)) (cell w (b + 2))) ≡ part_in w f j
-  part_body e = sym (ap (λ (t : Bool). cond t (init (cell w (b + 1))) (body (instrs_in w (cell w (b + 1)) (cell w (b + 2))))) (ne_eqb (cell w b) 0 e)) ∙ part_here

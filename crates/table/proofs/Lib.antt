@@ -1,7 +1,6 @@
 pub mod LayoutLaws
 pub mod ViewLaws
 pub mod RowLaws
-pub mod FormLaws
 pub mod PoolLaws
 pub mod StoreLaws
 pub mod SheetLaws

@@ -9,10 +9,9 @@ use Rattle.lists.specs.Pairwise.{Pairwise}
 use Rattle.lists.proofs.InLaws.{In-get_or}
 use Rattle.lists.proofs.PairwiseLaws.{Pairwise-length}
 use Rattle.lists.proofs.TabLaws.{length-tab, get_or-tab}
-use Rattle.sheet_rules.specs.Limits.{keep_limit}
 use Rattle.sheet_rules.specs.Sheet.{Row, Part, init, Form, no_row, no_member, no_form, row_at, form_at, device_at}
 use Rattle.sheet_rules.specs.WellFormed.{WellFormedRow, PartOf, WellFormedForm, WellFormed}
-use Rattle.table.specs.Layout.{row_count_at, form_count_at, main_start_at, main_count_at, device_count_at, device_address, row_address, form_address, keep_address, table_end}
+use Rattle.table.specs.Layout.{row_count_at, form_count_at, main_start_at, main_count_at, device_count_at, device_address, row_address, form_address, keep_address, keep_count_address, table_end}
 use Rattle.table.specs.View.{cell, member_in, row_in, rows_in, instr_in, instrs_in, part_in, parts_in, keeps_in, form_in, sheet_in}
 use Rattle.table.specs.Only.{Only}
 use Rattle.table.specs.Ready.{Ready}
@@ -43,10 +42,6 @@ module _ (w : List ℕ) where
   pub form_missing : (f : ℕ) → length (sheet_in w).forms ≤ f → form_at (sheet_in w) f ≡ no_form
   form_missing f h = get_or-eq_default (sheet_in w).forms no_form h
 
-  pub form_row_is : (f : ℕ) → (form_in w f).row ≡ cell w (form_address f)
-  unfolding form_in
-  form_row_is f = λ x. cell w (form_address f)
-
   pub form_keeps_are : (f : ℕ) → (form_in w f).keeps ≡ keeps_in w f (cell w (form_address f + 1))
   unfolding form_in
   form_keeps_are f = λ x. keeps_in w f (cell w (form_address f + 1))
@@ -69,20 +64,38 @@ module _ (w : List ℕ) where
     pub sheet_rows_ready : Ready (cell w row_count_at) w
     sheet_rows_ready = let k = h.sheet.few_rows in rows_ready (cell w row_count_at) w h.size (omega (arith, rows-length w)) rows_well
 
+    pub rows_few : cell w row_count_at ≤ 64
+    rows_few = sheet_rows_ready.rows
+
     pub forms_few : length (sheet_in w).forms ≤ 64
     forms_few = h.sheet.few_forms
 
     pub form_well : (f : ℕ) → f < length (sheet_in w).forms → WellFormedForm (sheet_in w).rows (length (sheet_in w).forms) (form_at (sheet_in w) f)
     form_well f l = h.sheet.forms (form_at (sheet_in w) f) (In-get_or (sheet_in w).forms f no_form l)
 
-    pub keeps_few : (f : ℕ) → f < length (sheet_in w).forms → length (form_in w f).keeps ≤ 8
-    keeps_few f l = subst (λ (a : Form). length a.keeps ≤ keep_limit) (form_there f l) (form_well f l).few
+    pub keeps_few : (f : ℕ) → f < length (sheet_in w).forms → length (form_at (sheet_in w) f).keeps ≤ 8
+    keeps_few f l = (form_well f l).few
 
-  -- a kept row, as the rules have it
-  pub keep_at : (f j : ℕ) → f < length (sheet_in w).forms → j < length (form_at (sheet_in w) f).keeps → cell w (keep_address f j) ≡ get_or (form_at (sheet_in w) f).keeps j 0
-  keep_at f j h k =
-      let e : form_at (sheet_in w) f ≡ form_in w f = form_there f h in
+  -- how many rows a form keeps, and each of them, as the rules have it
+  pub keeps_counted : (f : ℕ) → f < length (sheet_in w).forms → cell w (keep_count_address f) ≡ length (form_at (sheet_in w) f).keeps
+  keeps_counted f h = sym (ap (λ (a : Form). length a.keeps) (form_there f h) ∙ keeps-length f)
+
+  pub kept_form : (f j : ℕ) → j < length (form_at (sheet_in w) f).keeps → f < length (sheet_in w).forms
+  kept_form f j k = go (dec_le (suc f) (length (sheet_in w).forms))
+    where
+      go : Dec (suc f ≤ length (sheet_in w).forms) → f < length (sheet_in w).forms
+      go (yes l) = l
+      go (no l) =
+          let e : length (form_at (sheet_in w) f).keeps ≡ 0 = ap (λ (a : Form). length a.keeps) (form_missing f (omega arith)) in
+          absurd (omega arith)
+
+  pub keep_at : (f j : ℕ) → j < length (form_at (sheet_in w) f).keeps → cell w (keep_address f j) ≡ get_or (form_at (sheet_in w) f).keeps j 0
+  keep_at f j k =
+      let e : form_at (sheet_in w) f ≡ form_in w f = form_there f (kept_form f j k) in
       sym (ap (λ (a : Form). get_or a.keeps j 0) e ∙ keep_there f j (subst (λ (a : Form). j < length a.keeps) e k))
+
+  pub kept_small : Whole w → (f j : ℕ) → j < length (form_at (sheet_in w) f).keeps → j < 8
+  kept_small h f j k = omega (arith, keeps_few h f (kept_form f j k))
 
   -- a member of a row, as the rules have it
   module _ (h : Whole w) (a j : ℕ) (k : j < length (row_at (sheet_in w).rows a).members) where

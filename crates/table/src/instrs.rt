@@ -5,10 +5,13 @@ ghost use Rattle.table.specs.Told.{new_slots, instr_told, ToldFrom, slot_rows_in
 ghost use Rattle.table.specs.View.{cell as cell_of, instr_in};
 ghost use Rattle.table.specs.Whole.{Whole};
 
+use crate::layout::{
+    INSTR_SIZE, INSTRS, MAIN_COUNT_AT, MAIN_START_AT, NUMBER_COUNT, NUMBERS, POOL_SIZE, SLOT_ROWS,
+};
 use crate::rows::wide;
 
 // One instruction. The slots of a `new` are read by number.
-#[derive(Clone, Copy)]
+#[derive(Clone, Copy, Debug, PartialEq, Eq)]
 pub enum Instruction {
     New {
         form: u16,
@@ -34,10 +37,7 @@ pub enum Instruction {
 pub fn within_pool(p: usize) -> usize
     ensures { result ≡ min p 1023 }
 {
-    if p < 1023 {
-        return p;
-    }
-    1023
+    p.min(POOL_SIZE - 1)
 }
 
 // Where the instruction at place p of the pool stands.
@@ -45,10 +45,10 @@ pub fn instr_address(p: usize) -> usize
     requires { p < 1024 }
     ensures { (result ≡ instr_address p) × (result ≤ 15877) }
 {
-    4624 + 11 * p
+    INSTRS + INSTR_SIZE * p
 }
 
-// The instruction whose numbers begin at a place.
+// The instruction whose numbers begin at a place: its operation's code first.
 fn instr_from(work: &[u16], at: usize) -> Instruction
     requires { at + 11 ≤ length work.now }
     ensures { ToldFrom work.now at result }
@@ -69,14 +69,6 @@ fn instr_from(work: &[u16], at: usize) -> Instruction
     }
 }
 
-// The instruction at place p of the pool.
-pub fn instr_at(work: &[u16], p: usize) -> Instruction
-    requires { work_size ≤ length work.now }
-    ensures { instr_told (new_slots work.now p) result ≡ instr_in work.now p }
-{
-    instr_from(work, 4624 + 11 * within_pool(p))
-}
-
 // The same for a place that is known to be in the pool: nothing is tested.
 pub fn instr_placed(work: &[u16], p: usize) -> Instruction
     requires { (p < 1024) × (work_size ≤ length work.now) }
@@ -90,52 +82,47 @@ pub fn main_start(work: &[u16]) -> u16
     requires { work_size ≤ length work.now }
     ensures { result ≡ cell_of work.now main_start_at }
 {
-    work[2]
+    work[MAIN_START_AT]
 }
 
 // How many instructions main has.
+#[tactic(auto, using(crate::proofs::SheetLaws::main_few))]
 pub fn main_count(work: &[u16]) -> usize
     requires { Whole work.now }
     ensures { (result ≡ cell_of work.now main_count_at) × (result ≤ 32) }
 {
-    wide(work[3])
+    wide(work[MAIN_COUNT_AT])
 }
 
 // How many slots the `new` at place p of the pool names.
+#[tactic(auto, using(crate::proofs::InstrLaws::slots_length))]
 pub fn new_slot_count(work: &[u16], p: usize) -> usize
     requires { work_size ≤ length work.now }
     ensures { (result ≡ length (new_slots work.now p)) × (result ≤ 8) }
 {
-    let count = wide(work[4624 + 11 * within_pool(p) + 1]);
-    if count == 0 {
-        return 0;
-    }
-    if 9 < count {
-        return 8;
-    }
-    count - 1
-}
-
-// Slot k that the `new` at place p of the pool names.
-pub fn new_slot(work: &[u16], p: usize, k: usize) -> u16
-    requires { work_size ≤ length work.now }
-    ensures { result ≡ get_or (new_slots work.now p) k 0 }
-{
-    if new_slot_count(work, p) <= k {
-        return 0;
-    }
-    work[4624 + 11 * within_pool(p) + (3 + k)]
+    let count = wide(work[instr_address(within_pool(p)) + 1]);
+    count.min(NUMBER_COUNT).saturating_sub(1)
 }
 
 // The same for a slot that is known to be named: nothing is tested.
+#[tactic(auto, using(crate::proofs::InstrLaws::slot_there))]
 pub fn slot_named(work: &[u16], p: usize, k: usize) -> u16
     requires { (p < 1024) × (k < length (new_slots work.now p)) × (k < 8) × (work_size ≤ length work.now) }
     ensures { result ≡ get_or (new_slots work.now p) k 0 }
 {
-    work[4624 + 11 * p + (3 + k)]
+    work[instr_address(p) + (NUMBERS + 1 + k)]
+}
+
+// Where the row of slot v stands.
+fn slot_row_address(v: usize) -> usize
+    requires { v < 64 }
+    ensures { result ≡ slot_row_address v }
+{
+    SLOT_ROWS + v
 }
 
 // The row of slot v, where `filled` slots are filled.
+#[tactic(auto, using(crate::proofs::InstrLaws::slot_row_there, crate::proofs::InstrLaws::slot_row_missing))]
 pub fn slot_row(work: &[u16], filled: usize, v: usize) -> u16
     requires { (filled ≤ 64) × (work_size ≤ length work.now) }
     ensures { result ≡ get_or (slot_rows_in work.now filled) v 0 }
@@ -143,7 +130,7 @@ pub fn slot_row(work: &[u16], filled: usize, v: usize) -> u16
     if filled <= v {
         return 0;
     }
-    work[19984 + v]
+    work[slot_row_address(v)]
 }
 
 // Sets the row of slot v.
@@ -151,5 +138,5 @@ pub fn put_slot_row(work: &mut [u16], v: usize, row: u16)
     requires { (v < 64) × (work_size ≤ length work.old) }
     ensures { work.new ≡ set work.old (slot_row_address v) row }
 {
-    crate::put(work, 19984 + v, row);
+    crate::put(work, slot_row_address(v), row);
 }

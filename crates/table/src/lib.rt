@@ -7,7 +7,9 @@ ghost use Rattle.std.specs.Prelude.{◌≡◌, ◌<◌, length, set};
 pub mod devices;
 pub mod forms;
 pub mod instrs;
+pub mod layout;
 pub mod rows;
+pub mod sheet;
 pub mod stores;
 
 // Sets the number at a place that is there.

@@ -4,9 +4,11 @@ ghost use Rattle.table.specs.Layout.{number_address, work_size};
 ghost use Rattle.table.specs.Stores.{row_head_put, member_put, operation_put, three_put, heading_put, part_put, counts_put};
 ghost use Rattle.table.specs.View.{kind_tag, operation_code};
 
+use crate::forms::{form_address, part_address};
 use crate::instrs::instr_address;
+use crate::layout::{MAIN_COUNT_AT, NUMBERS, ROW_COUNT_AT};
 use crate::put;
-use crate::rows::member_address;
+use crate::rows::{member_address, row_address};
 use sheet_rules::{MemberKind, Operation};
 
 // Three numbers, from a place on.
@@ -24,7 +26,7 @@ pub fn put_heading(work: &mut [u16], f: usize, row: u16, keeps: u16, parts: u16)
     requires { (f < 64) × (work_size ≤ length work.old) }
     ensures { work.new ≡ heading_put work.old f row keeps parts }
 {
-    put_three(work, 2320 + 36 * f, row, keeps, parts);
+    put_three(work, form_address(f), row, keeps, parts);
 }
 
 // The heading of row i: its kind and how many members it has.
@@ -32,18 +34,16 @@ pub fn put_row_head(work: &mut [u16], i: usize, kind: u16, members: u16)
     requires { (i < 64) × (work_size ≤ length work.old) }
     ensures { work.new ≡ row_head_put work.old i kind members }
 {
-    put(work, 16 + 36 * i, kind);
-    put(work, 16 + 36 * i + 1, members);
+    let at = row_address(i);
+    put(work, at, kind);
+    put(work, at + 1, members);
 }
 
 // How a member's kind is stored.
 fn kind_tag(kind: MemberKind) -> u16
     ensures { result ≡ kind_tag kind }
 {
-    match kind {
-        MemberKind::Method => 0,
-        MemberKind::Field => 1,
-    }
+    kind as u16
 }
 
 // Member j of row i: its kind, its name, and its one or two rows.
@@ -71,13 +71,7 @@ pub fn put_member(
 fn operation_code(operation: Operation) -> u16
     ensures { result ≡ operation_code operation }
 {
-    match operation {
-        Operation::New => 0,
-        Operation::Call => 1,
-        Operation::Get => 2,
-        Operation::Put => 3,
-        Operation::Copy => 4,
-    }
+    operation as u16
 }
 
 // The operation of instruction p, and how many numbers it has.
@@ -97,7 +91,7 @@ pub fn put_number(work: &mut [u16], p: usize, k: usize, n: u16)
     ensures { work.new ≡ set work.old (number_address p k) n }
 {
     let at = instr_address(p);
-    put(work, at + (2 + k), n);
+    put(work, at + (NUMBERS + k), n);
 }
 
 // Part j of form f: 0 and the kept value of an `init`; or 1, where a body's instructions begin, and how many they are.
@@ -105,7 +99,7 @@ pub fn put_part(work: &mut [u16], f: usize, j: usize, tag: u16, first: u16, seco
     requires { (f < 64) × (j < 8) × (work_size ≤ length work.old) }
     ensures { work.new ≡ part_put work.old f j tag first second }
 {
-    put_three(work, 2320 + 36 * f + (11 + 3 * j), tag, first, second);
+    put_three(work, part_address(f, j), tag, first, second);
 }
 
 // The sheet's counts: its rows and forms, where main's instructions begin, and how many they are.
@@ -113,6 +107,6 @@ pub fn put_counts(work: &mut [u16], rows: u16, forms: u16, start: u16, count: u1
     requires { work_size ≤ length work.old }
     ensures { work.new ≡ counts_put work.old rows forms start count }
 {
-    put_three(work, 0, rows, forms, start);
-    put(work, 3, count);
+    put_three(work, ROW_COUNT_AT, rows, forms, start);
+    put(work, MAIN_COUNT_AT, count);
 }

@@ -16,18 +16,19 @@ use Rattle.sheet_rules.specs.declared.FitAnswer.{FitAnswer}
 use Rattle.sheet_rules.specs.declared.FitAnswer.TheVariants.{Yes, WrongKind, Unmet}
 use Rattle.sheet_rules.specs.declared.Member.{Member}
 use Rattle.sheet_rules.specs.declared.Reason.TheVariants.{NotDefined}
-use Rattle.sheet_rules.specs.Answers.{is_yes}
+use Rattle.sheet_rules.specs.Answers.{is_yes, turned_away}
 use Rattle.sheet_rules.specs.Sheet.{Row, Sheet, row_at}
 use Rattle.sheet_rules.specs.RowLines.{name_of}
 use Rattle.sheet_rules.specs.Reading.{readable, meaning}
 use Rattle.sheet_rules.specs.WellFormed.{NamesAscend, above, WellFormed}
 use Rattle.sheet_rules.proofs.ReadingLaws.{readable-WellFormed}
-use Rattle.type_rules.specs.declared.FitReply.{FitReply}
-use Rattle.type_rules.specs.declared.FitReply.TheVariants.{Answered, Refused}
+use Rattle.sheet_rules.specs.declared.Refusal.{Refusal}
+use Rattle.std.specs.declared.result.Result.{Result}
 use Rattle.type_rules.specs.Fit.{kind_fits, has_match, members_answer, row_answer, fit_answer, fits}
 use Rattle.type_rules.specs.FitQuestion.{fit_on, fit_reply}
 use Rattle.type_rules.specs.Says.{Says, says_yes, says_kind, says_unmet}
 use Rattle.type_rules.proofs.FitLaws.{members_at, fit_rule}
+use Rattle.std.specs.declared.result.Result.TheVariants.{Ok}
 
 -- THE MEMBERS
 
@@ -143,19 +144,20 @@ yes_exactly rows a b = (λ e. subst (λ (x : FitAnswer). T (is_yes x)) (sym e) t
     back WrongKind t = absurd t
     back (Unmet n) t = absurd t
 
+-- one reply has one answer
+pub answered : {x y : FitAnswer} → ◌≡◌ {A = Result FitAnswer Refusal} (Ok x) (Ok y) → x ≡ y
+answered e = cc
+
 -- and the question on a text answers so, for rows that are there
 pub reply_exactly : (text : List ℕ) (s : Sheet) → meaning text ≡ readable s → (a b : ℕ) → a < length s.rows → b < length s.rows → (x : FitAnswer)
-    → (fit_reply text a b ≡ Answered x) ↔ Says (fits s.rows) (row_at s.rows a) (row_at s.rows b) x
+    → (fit_reply text a b ≡ Ok x) ↔ Says (fits s.rows) (row_at s.rows a) (row_at s.rows b) x
 unfolding fit_reply
 reply_exactly text s m a b h k x =
     let both = answer_exactly s (readable-WellFormed text s m) a b x in
-    (λ e. both.0 (answered (sym there ∙ e)), λ t. there ∙ ap Answered (both.1 t))
+    (λ e. both.0 (answered (sym there ∙ e)), λ t. there ∙ ap Ok (both.1 t))
   where
-    asked : Bool → Bool → FitReply
-    asked p q = cond (p && q) (Answered (fit_answer s.rows a b)) (Refused NotDefined 0)
+    asked : Bool → Bool → Result FitAnswer Refusal
+    asked p q = cond (p && q) (Ok (fit_answer s.rows a b)) (turned_away NotDefined 0)
 
-    there : fit_on (meaning text) a b ≡ Answered (fit_answer s.rows a b)
+    there : fit_on (meaning text) a b ≡ Ok (fit_answer s.rows a b)
     there = ap (λ n. fit_on n a b) m ∙ ap (λ p. asked p (ltb b (length s.rows))) (lt-ltb a (length s.rows) h) ∙ ap (asked true) (lt-ltb b (length s.rows) k)
-
-    answered : {x y : FitAnswer} → Answered x ≡ Answered y → x ≡ y
-    answered e = cc

@@ -20,8 +20,8 @@ use Rattle.sheet_rules.specs.RowLines.{name_of}
 use Rattle.sheet_rules.specs.Reading.{Meaning, readable, unreadable, meaning}
 use Rattle.sheet_rules.specs.WellFormed.{NamesAscend, end, above, WellFormed}
 use Rattle.sheet_rules.proofs.ReadingLaws.{readable-WellFormed}
-use Rattle.type_rules.specs.declared.FitReply.{FitReply}
-use Rattle.type_rules.specs.declared.FitReply.TheVariants.{Answered, Refused}
+use Rattle.sheet_rules.specs.declared.Refusal.{Refusal}
+use Rattle.std.specs.declared.result.Result.{Result}
 use Rattle.type_rules.specs.declared.FitTold.{FitTold}
 use Rattle.type_rules.specs.declared.Walk.{Walk}
 use Rattle.type_rules.specs.Fit.{kind_fits, matches, has_match, members_answer, row_answer, fit_answer, fits}
@@ -29,8 +29,10 @@ use Rattle.type_rules.specs.FitQuestion.{fit_reply, passed_in, passed_on, fit_to
 use Rattle.type_rules.specs.Passed.{up_to, last_name, passed}
 use Rattle.type_rules.specs.Walk.{ends, walk, turns_of, row_walk}
 use Rattle.type_rules.proofs.FitLaws.{fit_rule}
-use Rattle.type_rules.proofs.AnswerLaws.{names_above, lowest, no_kind, answer_exactly, reply_exactly}
+use Rattle.type_rules.proofs.AnswerLaws.{names_above, lowest, no_kind, answer_exactly, reply_exactly, answered}
 use Rattle.type_rules.proofs.WalkLaws.{after, answer_skip, answer_lack, answer_both}
+use Rattle.std.specs.declared.result.Result.TheVariants.{Ok}
+use Rattle.sheet_rules.specs.Answers.{turned_away}
 
 -- THE TURNS
 
@@ -203,27 +205,27 @@ row_enough fit turns a b p q h = go (kind_fits a.kind b.kind)
 
 -- of the rows of a sheet that was read, fit's own answer
 pub sheet_enough : (s : Sheet) → WellFormed s → (a b turns : ℕ) → turns_of (row_at s.rows a) (row_at s.rows b) ≤ turns
-    → row_walk (fits s.rows) turns (row_at s.rows a) (row_at s.rows b) ≡ ends (fit_answer s.rows a b) (passed_in s a b (Answered (fit_answer s.rows a b)))
+    → row_walk (fits s.rows) turns (row_at s.rows a) (row_at s.rows b) ≡ ends (fit_answer s.rows a b) (passed_in s a b (Ok (fit_answer s.rows a b)))
 sheet_enough s w a b turns h =
     row_enough (fits s.rows) turns (row_at s.rows a) (row_at s.rows b) (w.rows a).names (w.rows b).names h
-    ∙ ap (λ (x : FitAnswer). ends x (passed_in s a b (Answered x))) (sym (fit_rule s.rows (λ i. (w.rows i).lower) a b))
+    ∙ ap (λ (x : FitAnswer). ends x (passed_in s a b (Ok x))) (sym (fit_rule s.rows (λ i. (w.rows i).lower) a b))
 
 -- where the question is refused, none is passed
-pub told_refused_lem : (text : List ℕ) (a b : ℕ) {r : Reason} {n : ℕ} → (fit_told text a b ≡ told_refused r n) ↔ (fit_reply text a b ≡ Refused r n)
+pub told_refused_lem : (text : List ℕ) (a b : ℕ) {r : Reason} {n : ℕ} → (fit_told text a b ≡ told_refused r n) ↔ (fit_reply text a b ≡ turned_away r n)
 unfolding fit_told
 told_refused_lem text a b {r} {n} = (
   λ e. ap (λ (t : FitTold). t.reply) e,
-  λ e. ap (λ (t : FitReply). record { reply = t; passed = passed_on (meaning text) a b t }) e ∙ ap (λ (k : ℕ). record { reply = Refused r n; passed = k }) (go (meaning text)),
+  λ e. ap (λ (t : Result FitAnswer Refusal). record { reply = t; passed = passed_on (meaning text) a b t }) e ∙ ap (λ (k : ℕ). record { reply = turned_away r n; passed = k }) (go (meaning text)),
 )
   where
-    go : (m : Meaning) → passed_on m a b (Refused r n) ≡ 0
+    go : (m : Meaning) → passed_on m a b (turned_away r n) ≡ 0
     go (readable s) = refl
     go (unreadable q l) = refl
 
 -- the question on a text tells where that walk ends, for rows that are there
 pub told_exactly : (text : List ℕ) (s : Sheet) → meaning text ≡ readable s → (a b : ℕ) → a < length s.rows → b < length s.rows
     → (turns : ℕ) → turns_of (row_at s.rows a) (row_at s.rows b) ≤ turns → (x : FitAnswer) (n : ℕ)
-    → (fit_told text a b ≡ record { reply = Answered x; passed = n }) ↔ (row_walk (fits s.rows) turns (row_at s.rows a) (row_at s.rows b) ≡ ends x n)
+    → (fit_told text a b ≡ record { reply = Ok x; passed = n }) ↔ (row_walk (fits s.rows) turns (row_at s.rows a) (row_at s.rows b) ≡ ends x n)
 unfolding fit_told
 told_exactly text s m a b h k turns l x n = (
   λ e. walked ∙ ap₂ ends (answered (ap (λ (t : FitTold). t.reply) (sym here ∙ e))) (ap (λ (t : FitTold). t.passed) (sym here ∙ e)),
@@ -237,19 +239,16 @@ told_exactly text s m a b h k turns l x n = (
     well = readable-WellFormed text s m
 
     replied : FitAnswer → ℕ → FitTold
-    replied z p = record { reply = Answered z; passed = p }
+    replied z p = record { reply = Ok z; passed = p }
 
-    there : fit_reply text a b ≡ Answered y
+    there : fit_reply text a b ≡ Ok y
     there = (reply_exactly text s m a b h k y).1 ((answer_exactly s well a b y).0 refl)
 
-    here : fit_told text a b ≡ replied y (passed_in s a b (Answered y))
-    here = ap₂ (λ (r : FitReply) (t : Meaning). record { reply = r; passed = passed_on t a b r }) there m
+    here : fit_told text a b ≡ replied y (passed_in s a b (Ok y))
+    here = ap₂ (λ (r : Result FitAnswer Refusal) (t : Meaning). record { reply = r; passed = passed_on t a b r }) there m
 
-    walked : row_walk (fits s.rows) turns (row_at s.rows a) (row_at s.rows b) ≡ ends y (passed_in s a b (Answered y))
+    walked : row_walk (fits s.rows) turns (row_at s.rows a) (row_at s.rows b) ≡ ends y (passed_in s a b (Ok y))
     walked = sheet_enough s well a b turns l
-
-    answered : {p q : FitAnswer} → Answered p ≡ Answered q → p ≡ q
-    answered e = cc
 
     same : {p q : Walk} → some p ≡ some q → p ≡ q
     same e = cc

@@ -12,13 +12,13 @@ use Rattle.sheet_rules.specs.declared.Member.TheVariants.{Method, Field}
 use Rattle.sheet_rules.specs.declared.Reason.TheVariants.{Malformed, NotDefined}
 use Rattle.sheet_rules.specs.Sheet.{Row}
 use Rattle.sheet_rules.specs.Samples.{text_of}
-use Rattle.type_rules.specs.declared.FitReply.TheVariants.{Answered}
 use Rattle.type_rules.specs.declared.FitTold.{FitTold}
 use Rattle.type_rules.specs.declared.Walk.{Walk}
 use Rattle.type_rules.specs.Fit.{fits}
 use Rattle.type_rules.specs.FitQuestion.{fit_told, told_refused}
 use Rattle.type_rules.specs.Walk.{ends, turns_of, row_walk}
 use Rattle.type_rules.proofs.Opened.{judging}
+use Rattle.std.specs.declared.result.Result.TheVariants.{Ok}
 
 -- rows 0 pure empty; then resources: 1 empty; 2 methods 1, 3 and 5; 3 method 3; 4 methods 1, 3, 5 and 7; 5 methods 2 and 9; 6 methods
 -- 1 and 5 and a field 3; 7 methods 1, 3 and 5, the second from row 0 to row 1; 8 method 9
@@ -59,7 +59,7 @@ sheet =
 
 -- two rows, and what is told of them
 abbrev asked : (a b : ℕ) → FitAnswer → ℕ → ℕ × ℕ × FitTold
-asked a b x n = (a, b, record { reply = Answered x; passed = n })
+asked a b x n = (a, b, record { reply = Ok x; passed = n })
 
 abbrev pairs : List (ℕ × ℕ × FitTold)
 pairs =

@@ -10,14 +10,16 @@ use lib.Dec.{eqb}
 use Rattle.sheet_rules.specs.declared.FitAnswer.TheVariants.{Yes, WrongKind, Unmet}
 use Rattle.sheet_rules.specs.declared.Reason.TheVariants.{NotDefined, ImpureForm, NoSuchMember}
 use Rattle.sheet_rules.specs.declared.Verdict.{Verdict}
-use Rattle.sheet_rules.specs.Answers.{verdict_number, verdict_line, verdict_lack, lack_number, lack_name}
+use Rattle.sheet_rules.specs.Answers.{verdict_number, verdict_line, verdict_lack, lack_number, lack_name, turned_away}
 use Rattle.sheet_rules.specs.Reading.{meaning}
 use Rattle.sheet_rules.specs.Samples.{text_of, with_line, P, D}
-use Rattle.type_rules.specs.declared.FitReply.{FitReply}
-use Rattle.type_rules.specs.declared.FitReply.TheVariants.{Answered, Refused}
+use Rattle.sheet_rules.specs.declared.FitAnswer.{FitAnswer}
+use Rattle.sheet_rules.specs.declared.Refusal.{Refusal}
+use Rattle.std.specs.declared.result.Result.{Result}
 use Rattle.type_rules.specs.FitQuestion.{fit_reply}
 use Rattle.type_rules.specs.Typing.{unless, LineJudge, line_faults, first_fault, first_form_line, verdict_on, verdict}
 use Rattle.type_rules.proofs.Opened.{judging}
+use Rattle.std.specs.declared.result.Result.TheVariants.{Ok}
 
 -- FIT
 
@@ -44,9 +46,9 @@ six =
 record Pair : Type 0 where
   a : ℕ
   b : ℕ
-  wanted : FitReply
+  wanted : Result FitAnswer Refusal
 
-abbrev asked : ℕ → ℕ → FitReply → Pair
+abbrev asked : ℕ → ℕ → Result FitAnswer Refusal → Pair
 asked a b r = record { a = a; b = b; wanted = r }
 
 -- what the question answers on a sheet's rows, beside what is wanted
@@ -55,20 +57,20 @@ Answers ls ps = map (λ p. fit_reply (text_of ls) p.a p.b) ps ≡ map (λ p. p.w
 
 pub six_hold :
     Answers six
-    (asked 2 3 (Answered Yes)
+    (asked 2 3 (Ok Yes)
     -- kind before names: 3 has no match for 2's method either
-    ∷ asked 3 2 (Answered WrongKind)
-    ∷ asked 0 1 (Answered Yes)
-    ∷ asked 1 0 (Answered WrongKind)
-    ∷ asked 4 5 (Answered (Unmet 1))
-    ∷ asked 5 4 (Answered (Unmet 1))
+    ∷ asked 3 2 (Ok WrongKind)
+    ∷ asked 0 1 (Ok Yes)
+    ∷ asked 1 0 (Ok WrongKind)
+    ∷ asked 4 5 (Ok (Unmet 1))
+    ∷ asked 5 4 (Ok (Unmet 1))
     -- a row fits itself; extra members do no harm; a field is no match of a method; a row number that is not there
-    ∷ asked 5 5 (Answered Yes)
-    ∷ asked 3 1 (Answered Yes)
-    ∷ asked 1 3 (Answered (Unmet 1))
-    ∷ asked 4 3 (Answered (Unmet 1))
-    ∷ asked 0 6 (Refused NotDefined 0)
-    ∷ asked 6 0 (Refused NotDefined 0)
+    ∷ asked 5 5 (Ok Yes)
+    ∷ asked 3 1 (Ok Yes)
+    ∷ asked 1 3 (Ok (Unmet 1))
+    ∷ asked 4 3 (Ok (Unmet 1))
+    ∷ asked 0 6 (turned_away NotDefined 0)
+    ∷ asked 6 0 (turned_away NotDefined 0)
     ∷ [])
 unfolding judging
 six_hold = refl
@@ -91,12 +93,12 @@ pub lowest_hold :
     ∷ "main=1"
     ∷ "new=0"
     ∷ [])
-    (asked 0 2 (Answered (Unmet 1)) ∷ asked 1 2 (Answered (Unmet 2)) ∷ asked 3 2 (Answered (Unmet 1)) ∷ asked 2 3 (Answered Yes) ∷ asked 2 0 (Answered WrongKind) ∷ [])
+    (asked 0 2 (Ok (Unmet 1)) ∷ asked 1 2 (Ok (Unmet 2)) ∷ asked 3 2 (Ok (Unmet 1)) ∷ asked 2 3 (Ok Yes) ∷ asked 2 0 (Ok WrongKind) ∷ [])
 unfolding judging
 lowest_hold = refl
 
 -- the fit question stops after reading: a sheet that is not well typed still answers, and one that is not read is refused
-pub fit_ill_typed : fit_reply (text_of (with_line 19 "new=2,0" P)) 0 1 ≡ Answered (Unmet 1)
+pub fit_ill_typed : fit_reply (text_of (with_line 19 "new=2,0" P)) 0 1 ≡ Ok (Unmet 1)
 unfolding judging
 fit_ill_typed = refl
 

@@ -8,7 +8,6 @@ use lib.ListN.{length, drop, drop_of_length-le, length-append, length-map}
 use lib.Seq.{drop-cons}
 use Rattle.lists.proofs.Tests.{clash}
 use Rattle.sheet_rules.specs.declared.FitAnswer.{FitAnswer}
-use Rattle.sheet_rules.specs.declared.Reason.{Reason}
 use Rattle.sheet_rules.specs.Sheet.{Form, Sheet, no_form, form_at}
 use Rattle.type_rules.specs.Typing.{Fault, form_faults, forms_faults, typed_lines}
 use Rattle.table.specs.Layout.{slot_row_address}
@@ -16,7 +15,9 @@ use Rattle.table.specs.View.{sheet_in}
 use Rattle.table.specs.Whole.{Whole}
 use Rattle.table.proofs.ViewLaws.{Only-refl, Only-trans}
 use Rattle.table.proofs.SheetLaws.{form_well, parts-Pairwise}
-use Rattle.code_typing.specs.declared.Walked.{Walked}
+use Rattle.std.specs.declared.result.Result.{Result}
+use Rattle.std.specs.declared.result.Result.TheVariants.{Ok, Err}
+use Rattle.sheet_rules.specs.declared.Refusal.{Refusal}
 use Rattle.code_typing.specs.Walk.{walk, walk_on}
 use Rattle.code_typing.specs.Told.{judge_in, OnlySlots, LinesJudged}
 use Rattle.code_typing.proofs.WalkLaws.{walk_none, walk-append, walk-length}
@@ -38,6 +39,10 @@ form_lines w f h l =
 -- the lines of the forms from number f on
 abbrev faults_from : List ℕ → ℕ → List Fault
 faults_from w f = forms_faults (judge_in w) (sheet_in w) f (drop f (sheet_in w).forms)
+
+-- the forms of the sheet of a buffer are the buffer's
+pub counted : {v w : List ℕ} {count : ℕ} → v ≡ w → count ≡ length (sheet_in v).forms → count ≡ length (sheet_in w).forms
+counted e c = c ∙ ap (λ (x : List ℕ). length (sheet_in x).forms) e
 
 -- where the loop stands
 pub record FormsGoing (first : ℕ) (w₀ w : List ℕ) (f line : ℕ) : Type 0 where
@@ -61,7 +66,7 @@ module _ {first : ℕ} {w₀ w : List ℕ} {f line : ℕ} (g : FormsGoing first 
     pub forms_in : f < count → f < length (sheet_in w).forms
     forms_in l = let e : length (sheet_in w).forms ≡ length (sheet_in w₀).forms = ap (λ (s : Sheet). length s.forms) (slots_sheet g.only) in omega (arith, count-is)
 
-    pub forms_end : count ≤ f → FormsJudged first w₀ w (Walked.On line)
+    pub forms_end : count ≤ f → FormsJudged first w₀ w (Ok line)
     unfolding forms_faults
     forms_end k =
         let past : length (sheet_in w₀).forms ≤ f = omega (arith, count-is) in
@@ -74,10 +79,10 @@ module _ {first : ℕ} {w₀ w : List ℕ} {f line : ℕ} (g : FormsGoing first 
           few = λ n e. (let q : line ≡ n = on-is n e in omega (arith, g.lined, g.within, h.sheet.few_forms));
         }
       where
-        on-is : (n : ℕ) → Walked.On line ≡ Walked.On n → line ≡ n
+        on-is : (n : ℕ) → ◌≡◌ {A = Result ℕ Refusal} (Ok line) (Ok n) → line ≡ n
         on-is n e = cc
 
-    module _ (l : f < count) {w' : List ℕ} {r : Walked} (t : LinesJudged (form_faults_in w f) line w w' r) where
+    module _ (l : f < count) {w' : List ℕ} {r : Result ℕ Refusal} (t : LinesJudged (form_faults_in w f) line w w' r) where
       faults_of : (ℕ → ℕ → FitAnswer) → Sheet → List Fault
       faults_of fit s = form_faults (typed_lines fit s) s f (form_at s f)
 
@@ -91,7 +96,7 @@ module _ {first : ℕ} {w₀ w : List ℕ} {f line : ℕ} (g : FormsGoing first 
       step : walk_on r (λ n. walk n rest) ≡ walk first (forms_faults_in w₀)
       unfolding forms_faults
       step =
-          ap (λ (x : Walked). walk_on x (λ n. walk n rest)) (t.told ∙ ap (walk line) here)
+          ap (λ (x : Result ℕ Refusal). walk_on x (λ n. walk n rest)) (t.told ∙ ap (walk line) here)
           ∙ sym (walk-append line (form_faults (judge_in w₀) (sheet_in w₀) f (form_at (sheet_in w₀) f)) rest)
           ∙ sym (ap (λ (fs : List Form). walk line (faults fs)) (drop-cons (sheet_in w₀).forms f no_form (omega (arith, count-is))))
           ∙ g.same
@@ -99,17 +104,17 @@ module _ {first : ℕ} {w₀ w : List ℕ} {f line : ℕ} (g : FormsGoing first 
       only' : OnlySlots w₀ w'
       only' = Only-trans g.only t.only
 
-      pub forms_stop : {q : Reason} {n : ℕ} → r ≡ Walked.Stopped q n → FormsJudged first w₀ w' r
-      forms_stop {q} {n} e =
+      pub forms_stop : {q : Refusal} → r ≡ Err q → FormsJudged first w₀ w' (Err q)
+      forms_stop {q} e =
           record {
-            lines = record { told = e ∙ ap (λ (x : Walked). walk_on x (λ n. walk n rest)) (sym e) ∙ step; only = only' };
-            few = λ m c. no_way m (sym e ∙ c);
+            lines = record { told = ap (λ (x : Result ℕ Refusal). walk_on x (λ n. walk n rest)) (sym e) ∙ step; only = only' };
+            few = λ m c. no_way m c;
           }
         where
-          no_way : (m : ℕ) {A : Type 0} → Walked.Stopped q n ≡ Walked.On m → A
+          no_way : (m : ℕ) {A : Type 0} → ◌≡◌ {A = Result ℕ Refusal} (Err q) (Ok m) → A
           no_way m c = clash (cc)
 
-      pub forms_next : {n : ℕ} → r ≡ Walked.On n → FormsGoing first w₀ w' (f + 1) n
+      pub forms_next : {n : ℕ} → r ≡ Ok n → FormsGoing first w₀ w' (f + 1) n
       forms_next {n} e =
           record {
             within = omega (arith, count-is);
@@ -121,5 +126,5 @@ module _ {first : ℕ} {w₀ w : List ℕ} {f line : ℕ} (g : FormsGoing first 
                 omega arith);
             same =
                 ap (λ (i : ℕ). walk n (faults_from w₀ i)) (add-one f)
-                ∙ ap (λ (x : Walked). walk_on x (λ n. walk n rest)) (sym e) ∙ step;
+                ∙ ap (λ (x : Result ℕ Refusal). walk_on x (λ n. walk n rest)) (sym e) ∙ step;
           }

@@ -8,7 +8,6 @@ use mathlib.Core.Option.{none}
 use lib.ListN.{length, drop, drop_of_length-le, length-map}
 use lib.Seq.{drop-cons}
 use Rattle.sheet_rules.specs.declared.FitAnswer.{FitAnswer}
-use Rattle.sheet_rules.specs.declared.Reason.{Reason}
 use Rattle.sheet_rules.specs.declared.Verdict.{Verdict}
 use Rattle.sheet_rules.specs.Sheet.{Row, Instr, Sheet, no_row, row_at, form_at}
 use Rattle.type_rules.specs.SlotRows.{slot_rows, main_rows}
@@ -19,8 +18,11 @@ use Rattle.table.specs.Whole.{Whole}
 use Rattle.table.specs.Told.{slot_rows_in}
 use Rattle.table.proofs.ViewLaws.{Only-trans}
 use Rattle.table.proofs.SheetLaws.{devices-length}
-use Rattle.code_typing.specs.declared.Walked.{Walked}
-use Rattle.code_typing.specs.Walk.{walk, walk_on, walk_verdict}
+use Rattle.std.specs.declared.result.Result.{Result}
+use Rattle.std.specs.declared.result.Result.TheVariants.{Ok, Err}
+use Rattle.sheet_rules.specs.declared.Refusal.{Refusal}
+use Rattle.sheet_rules.specs.Answers.{verdict_from}
+use Rattle.code_typing.specs.Walk.{walk, walk_on}
 use Rattle.code_typing.specs.Told.{judge_in, OnlySlots, LinesJudged, CodeJudged}
 use Rattle.code_typing.proofs.WalkLaws.{walk_good, walk-append, walk_verdict_lem, walk-length}
 use Rattle.code_typing.proofs.CodeLaws.{slots_sheet, slots_answers}
@@ -39,7 +41,7 @@ pub rows_start : {rows : List Row} → RowsWalk rows 0 3
 rows_start = record { within = omega arith; lined = omega arith; same = omega arith }
 
 module _ {rows : List Row} {a line : ℕ} (g : RowsWalk rows a line) where
-  pub rows_next : a < length rows → {m : ℕ} → m ≡ length (row_at rows a).members → m ≤ 8 → RowsWalk rows (a + 1) (line + 1 + m)
+  pub rows_next : a < length rows → {m : ℕ} → m ≡ length (row_at rows a).members → m ≤ 8 → RowsWalk rows (a + 1) (line + (1 + m))
   unfolding row_lines
   rows_next l e few =
       record {
@@ -60,7 +62,7 @@ module _ {rows : List Row} {a line : ℕ} (g : RowsWalk rows a line) where
 
 -- main, where its first slots have the devices' rows
 
-pub main_judged : {w : List ℕ} {line : ℕ} (filled : ℕ) {main : List Instr} → slot_rows_in w filled ≡ main_rows (sheet_in w) → main ≡ (sheet_in w).main → {w' : List ℕ} {r : Walked}
+pub main_judged : {w : List ℕ} {line : ℕ} (filled : ℕ) {main : List Instr} → slot_rows_in w filled ≡ main_rows (sheet_in w) → main ≡ (sheet_in w).main → {w' : List ℕ} {r : Result ℕ Refusal}
     → CodeJudged (code_faults (judge_in w).of_main (sheet_in w) none (slot_rows_in w filled) main) (slot_rows (sheet_in w) none (slot_rows_in w filled) main) (line + 1) w w' r
     → CodeJudged (main_faults_in w) (main_slot_rows w) line w w' r
 main_judged {w} {line} filled rows e {w'} {r} k =
@@ -94,39 +96,43 @@ module _ {w w₁ : List ℕ} (o : OnlySlots w w₁) where
   unfolding main_of
   main_same = λ x. main_of (slots_answers o x) (slots_sheet o x)
 
-module _ {w : List ℕ} {first : ℕ} (first-is : first ≡ first_form_line (sheet_in w)) {w₁ : List ℕ} {forms : Walked} (j : FormsJudged first w w₁ forms) where
+-- the first form's line is worked out over the sheet of the buffer
+module _ {v w : List ℕ} (same : v ≡ w) {first : ℕ} (first_was : first ≡ first_form_line (sheet_in v)) {w₁ : List ℕ} {forms : Result ℕ Refusal} (j : FormsJudged first w w₁ forms) where
+  first-is : first ≡ first_form_line (sheet_in w)
+  first-is = first_was ∙ ap (λ (x : List ℕ). first_form_line (sheet_in x)) same
+
   t : LinesJudged (forms_faults_in w) first w w₁ forms
   t = j.lines
 
-  verdict_by : walk_verdict (walk_on forms (λ n. walk n (rest_faults_in w))) ≡ first_fault (first_form_line (sheet_in w)) (line_faults (judge_in w) (sheet_in w))
+  verdict_by : verdict_from (walk_on forms (λ n. walk n (rest_faults_in w))) ≡ first_fault (first_form_line (sheet_in w)) (line_faults (judge_in w) (sheet_in w))
   unfolding line_faults
   verdict_by =
-      ap walk_verdict (ap (λ (x : Walked). walk_on x (λ n. walk n (rest_faults_in w))) t.told ∙ sym (walk-append first (forms_faults_in w) (rest_faults_in w)))
+      ap verdict_from (ap (λ (x : Result ℕ Refusal). walk_on x (λ n. walk n (rest_faults_in w))) t.told ∙ sym (walk-append first (forms_faults_in w) (rest_faults_in w)))
       ∙ sym (walk_verdict_lem first (forms_faults_in w ++ rest_faults_in w)) ∙ ap (λ (n : ℕ). first_fault n (forms_faults_in w ++ rest_faults_in w)) first-is
 
-  pub forms_refused : {q : Reason} {n : ℕ} → forms ≡ Walked.Stopped q n → {v : Verdict} → v ≡ walk_verdict forms → SheetJudged w w₁ v
-  forms_refused e ev =
-      record { told = ev ∙ ap walk_verdict (e ∙ ap (λ (x : Walked). walk_on x (λ n. walk n (rest_faults_in w))) (sym e)) ∙ verdict_by; only = t.only }
+  pub forms_refused : {q : Refusal} → forms ≡ Err q → SheetJudged w w₁ (Verdict.Refused q.reason q.line)
+  forms_refused e =
+      record { told = ap verdict_from (ap (λ (x : Result ℕ Refusal). walk_on x (λ n. walk n (rest_faults_in w))) (sym e)) ∙ verdict_by; only = t.only }
 
   -- the forms passed, and the devices were judged
-  module _ {n : ℕ} (e : forms ≡ Walked.On n) {w₂ : List ℕ} {devices : Walked} (d : CodeJudged (devices_faults_in w₁) (main_rows (sheet_in w₁)) n w₁ w₂ devices) where
+  module _ {n : ℕ} (e : forms ≡ Ok n) {w₂ : List ℕ} {devices : Result ℕ Refusal} (d : CodeJudged (devices_faults_in w₁) (main_rows (sheet_in w₁)) n w₁ w₂ devices) where
     -- the verdict after them
-    verdict_on : walk_verdict (walk_on devices (λ m. walk m (main_faults_in w))) ≡ first_fault (first_form_line (sheet_in w)) (line_faults (judge_in w) (sheet_in w))
+    verdict_on : verdict_from (walk_on devices (λ m. walk m (main_faults_in w))) ≡ first_fault (first_form_line (sheet_in w)) (line_faults (judge_in w) (sheet_in w))
     verdict_on =
-        ap walk_verdict
-        (ap (λ (x : Walked). walk_on x (λ m. walk m (main_faults_in w))) (d.lines.told ∙ ap (walk n) (devices_same t.only))
+        ap verdict_from
+        (ap (λ (x : Result ℕ Refusal). walk_on x (λ m. walk m (main_faults_in w))) (d.lines.told ∙ ap (walk n) (devices_same t.only))
         ∙ sym (walk-append n (devices_faults_in w) (main_faults_in w))
-        ∙ ap (λ (x : Walked). walk_on x (λ m. walk m (rest_faults_in w))) (sym e))
+        ∙ ap (λ (x : Result ℕ Refusal). walk_on x (λ m. walk m (rest_faults_in w))) (sym e))
         ∙ verdict_by
 
     pub devices_only : OnlySlots w w₂
     devices_only = Only-trans t.only d.lines.only
 
-    pub devices_refused : {q : Reason} {m : ℕ} → devices ≡ Walked.Stopped q m → {v : Verdict} → v ≡ walk_verdict devices → SheetJudged w w₂ v
-    devices_refused x ev =
-        record { told = ev ∙ ap walk_verdict (x ∙ ap (λ (y : Walked). walk_on y (λ m. walk m (main_faults_in w))) (sym x)) ∙ verdict_on; only = devices_only }
+    pub devices_refused : {q : Refusal} → devices ≡ Err q → SheetJudged w w₂ (Verdict.Refused q.reason q.line)
+    devices_refused x =
+        record { told = ap verdict_from (ap (λ (y : Result ℕ Refusal). walk_on y (λ m. walk m (main_faults_in w))) (sym x)) ∙ verdict_on; only = devices_only }
 
-    module _ {m : ℕ} (x : devices ≡ Walked.On m) where
+    module _ {m : ℕ} (x : devices ≡ Ok m) where
       -- main's first slots have their rows
       pub devices_rows : slot_rows_in w₂ (cell w₂ device_count_at) ≡ main_rows (sheet_in w₂)
       devices_rows =
@@ -140,9 +146,9 @@ module _ {w : List ℕ} {first : ℕ} (first-is : first ≡ first_form_line (she
       pub devices_end : Whole w₁ → m ≤ n + 9
       devices_end h = omega (arith, walk-length n (devices_faults_in w₁) m (sym d.lines.told ∙ x), devices_nine (judge_in w₁) (sheet_in w₁).devices h.sheet.few_devices)
 
-      pub sheet_judged : {w' : List ℕ} {r : Walked} → LinesJudged (main_faults_in w₂) m w₂ w' r → {v : Verdict} → v ≡ walk_verdict r → SheetJudged w w' v
-      sheet_judged k ev =
+      pub sheet_judged : {w' : List ℕ} {r : Result ℕ Refusal} → LinesJudged (main_faults_in w₂) m w₂ w' r → SheetJudged w w' (verdict_from r)
+      sheet_judged k =
           record {
-            told = ev ∙ ap walk_verdict (k.told ∙ ap (walk m) (main_same devices_only) ∙ ap (λ (y : Walked). walk_on y (λ i. walk i (main_faults_in w))) (sym x)) ∙ verdict_on;
+            told = ap verdict_from (k.told ∙ ap (walk m) (main_same devices_only) ∙ ap (λ (y : Result ℕ Refusal). walk_on y (λ i. walk i (main_faults_in w))) (sym x)) ∙ verdict_on;
             only = Only-trans devices_only k.only;
           }

@@ -5,7 +5,9 @@ use Rattle.sheet_rules.specs.declared.Verdict.{Verdict}
 use Rattle.type_rules.specs.SlotRows.{slot_rows, main_rows}
 use Rattle.type_rules.specs.Typing.{Fault, forms_faults, devices_faults, main_faults, line_faults, first_form_line, first_fault}
 use Rattle.table.specs.View.{sheet_in}
-use Rattle.code_typing.specs.declared.Walked.{Walked}
+use Rattle.std.specs.declared.result.Result.{Result}
+use Rattle.std.specs.declared.result.Result.TheVariants.{Ok}
+use Rattle.sheet_rules.specs.declared.Refusal.{Refusal}
 use Rattle.code_typing.specs.Told.{judge_in, OnlySlots, LinesJudged}
 
 -- the lines of all forms, of the devices, and of main, by what the fit table says; and the rows of all slots of main
@@ -25,9 +27,9 @@ abbrev pub main_slot_rows : List ℕ → List ℕ
 main_slot_rows w = slot_rows (sheet_in w) none (main_rows (sheet_in w)) (sheet_in w).main
 
 -- the forms' lines, judged: 273 for each of 64 forms at the most
-pub record FormsJudged (first : ℕ) (w w' : List ℕ) (r : Walked) : Type 0 where
+pub record FormsJudged (first : ℕ) (w w' : List ℕ) (r : Result ℕ Refusal) : Type 0 where
   pub lines : LinesJudged (forms_faults_in w) first w w' r
-  pub few : (n : ℕ) → r ≡ Walked.On n → n ≤ first + 17472
+  pub few : (n : ℕ) → r ≡ Ok n → n ≤ first + 17472
 
 -- the verdict on the sheet in the table is the rule's, by what the fit table says, and only rows of slots have changed
 pub record SheetJudged (w w' : List ℕ) (v : Verdict) : Type 0 where

@@ -8,53 +8,45 @@ ghost use Rattle.code_typing.specs.Walk.{line_limit};
 ghost use Rattle.code_typing.specs.Told.{CodeJudged};
 ghost use Rattle.typing.specs.Told.{device_faults_in, devices_faults_in};
 
-use code_typing::Walked;
-use sheet_rules::Reason;
+use sheet_rules::{Reason, Refusal};
 use table::rows::wide;
+use table::sheet::Sheet;
 
 // Whether a form may be a device's: it keeps nothing, and is a resource.
-fn is_device(work: &[u16], f: usize) -> bool
-    requires { Whole work.now }
-    ensures { result ≡ is_device (sheet_in work.now) f }
+fn is_device(sheet: &Sheet<'_>, f: usize) -> bool
+    ensures { result ≡ is_device (sheet_in sheet.now) f }
 {
-    if table::forms::keep_count(work, f) != 0 {
-        return false;
-    }
-    let row = table::forms::form_row(work, f);
-    !form_typing::is_pure(work, wide(row))
+    sheet.keep_count(f) == 0 && !form_typing::is_pure(sheet, wide(sheet.form_row(f)))
 }
 
 // The `device` lines, from line `first` on.
-fn judge_each(work: &mut [u16], first: u32) -> Walked
+fn judge_each(work: &mut [u16], first: u32) -> Result<u32, Refusal>
     requires { Whole work.old × (first + 8 ≤ line_limit) }
     ensures { CodeJudged (device_faults_in work.old) (main_rows (sheet_in work.old)) first work.old work.new result }
 {
     let count = wide(table::devices::device_count(work));
-    let mut d = 0;
-    let mut line = first;
-    while d < count {
-        let form = wide(table::devices::device_form(work, d));
-        if !is_device(work, form) {
-            return Walked::Stopped {
+    for d in 0..count {
+        let sheet = Sheet::of(work);
+        let form = wide(sheet.device_form(d));
+        if !is_device(&sheet, form) {
+            return Err(Refusal {
                 reason: Reason::WrongDevice,
-                line,
-            };
+                line: first + d as u32,
+            });
         }
-        let row = table::forms::form_row(work, form);
+        let row = sheet.form_row(form);
         table::instrs::put_slot_row(work, d, row);
-        line = line + 1;
-        d = d + 1;
     }
-    Walked::On { line }
+    Ok(first + count as u32)
 }
 
 // The `devices` line and the `device` lines; a sheet without devices has none of them.
-pub fn judge_devices(work: &mut [u16], line: u32) -> Walked
+pub fn judge_devices(work: &mut [u16], line: u32) -> Result<u32, Refusal>
     requires { Whole work.old × (line + 9 ≤ line_limit) }
     ensures { CodeJudged (devices_faults_in work.old) (main_rows (sheet_in work.old)) line work.old work.new result }
 {
     if table::devices::device_count(work) == 0 {
-        return Walked::On { line };
+        return Ok(line);
     }
     judge_each(work, line + 1)
 }

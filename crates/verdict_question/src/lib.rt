@@ -3,6 +3,8 @@
 
 ghost use Rattle.std.specs.Prelude.{◌≤◌, length};
 ghost use Rattle.table.specs.Layout.{work_size};
+ghost use Rattle.type_rules.specs.Typing.{verdict};
+ghost use Rattle.question.specs.Asked.{ToldAlone};
 ghost use Rattle.verdict_question.specs.Asked.{TextJudged, VerdictAsked};
 
 use sheet_rules::{Reason, Verdict};
@@ -25,13 +27,16 @@ pub fn judge_text(text: &[u8], work: &mut [u16]) -> Verdict
 pub fn ask_verdict(text: &[u8], work: &mut [u16]) -> Verdict
     ensures { VerdictAsked text.now work.old work.new result }
 {
-    if !question::enough(work.len(), 0, 0) {
-        return Verdict::Refused {
-            reason: Reason::BufferTooShort,
-            line: 0,
-        };
-    }
-    let answer = judge_text(text, work);
-    question::clear(work);
-    answer
+    let short = Verdict::Refused {
+        reason: Reason::BufferTooShort,
+        line: 0,
+    };
+    question::ask(
+        work,
+        short,
+        |work: &mut [u16]| -> Verdict
+            requires { work_size ≤ length work.now }
+            ensures { ToldAlone (verdict text.entry.now) work.entry.now work.exit.now result }
+        { judge_text(text, work) },
+    )
 }

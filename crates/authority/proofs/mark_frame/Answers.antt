@@ -7,8 +7,8 @@ returns-then-holder-h c =
 
 pub mark_noted-requires : goal.mark_noted-requires
 mark_noted-requires c =
-    frame_asks c.requires.0 c.args.f c.args.frame c.args.beneath c.args.h c.frame_holder-holder.ensures c.requires.1 c.requires.2 c.note_code.ensures c.frame_at.ensures
+    frame_asks c.requires.0 c.args.f c.args.frame c.args.beneath c.args.h c.frame_holder-holder.ensures c.requires.1 c.requires.2 c.note_code.ensures c.slot_at.ensures
 
 pub returns : goal.returns
 returns c =
-    frame_own c.requires.0 c.args.f c.args.frame c.args.beneath c.args.h c.frame_holder-holder.ensures c.requires.1 c.requires.2 c.note_code.ensures c.frame_at.ensures c.if-holder-h.false c.mark_noted.ensures
+    frame_own c.requires.0 c.args.f c.args.frame c.args.beneath c.args.h c.frame_holder-holder.ensures c.requires.1 c.requires.2 c.note_code.ensures c.slot_at.ensures c.if-holder-h.false c.mark_noted.ensures

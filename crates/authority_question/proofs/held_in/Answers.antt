@@ -1,4 +1,6 @@
-use mathlib.Core.Path.{ap}
+use mathlib.Core.Path.{ap, sym, subst}
+use Rattle.std.specs.declared.result.Result.TheVariants.{Err}
+use Rattle.authority_question.specs.Asked.{HeldTold}
 use mathlib.Core.Bool.{not}
 use borrow.Author.Tests.{not-true, not-false}
 use Rattle.authority.proofs.ReachLaws.{run_stored}
@@ -12,7 +14,8 @@ is_group-requires c =
 
 pub returns-then-not-is_group : goal.returns-then-not-is_group
 returns-then-not-is_group c =
-    no_group c.run_noted-halt.ensures c.args.holders.now c.is_group.ensures (not-true c.is_group.result (ap not c.if-not-is_group.true)) c.args.res.now
+    subst (HeldTold _ c.args.work.now c.args.res.now _ c.args.res.now) (ap Err (sym c.at.ensures))
+    (no_group c.run_noted-halt.ensures c.args.holders.now c.is_group.ensures (not-true c.is_group.result (ap not c.if-not-is_group.true)) c.args.res.now)
 
 pub write_group-count-requires : goal.write_group-count-requires
 write_group-count-requires c = (

@@ -30,9 +30,3 @@ returns c =
     subst (λ (v : List ℕ). FitFilled c.args.rows c.args.work.now v)
     (sym (c.loop-m.invariant.1 ∙ ap (rows_filled c.args.work.now) (omega arith)))
     (all_filled c.args.work.now c.args.rows c.requires)
-
-pub overflow_add-m : goal.overflow_add-m
-overflow_add-m c = omega arith
-
-pub loop-m-smaller : goal.loop-m-smaller
-loop-m-smaller c = omega arith

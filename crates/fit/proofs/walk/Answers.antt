@@ -3,12 +3,6 @@ use Rattle.fit.proofs.MatchLaws.{few_members, small_mentions}
 use Rattle.fit.proofs.TurnLaws.{begun, both_ended, first_ended, second_ended, first_lower, second_lower, one_name, spent}
 use Rattle.fit.proofs.walk.Goals as goal
 
-pub member_count-across-requires : goal.member_count-across-requires
-member_count-across-requires c = (c.requires.0, c.requires.4)
-
-pub member_count-down-requires : goal.member_count-down-requires
-member_count-down-requires c = (c.requires.1, c.requires.4)
-
 pub alike-from-requires : goal.alike-from-requires
 alike-from-requires c = (c.requires.0, c.requires.1, few_members c.args.work.now c.args.m c.requires.2, few_members c.args.work.now c.args.k c.requires.3, c.requires.4)
 
@@ -33,26 +27,12 @@ pub member_name-y-requires : goal.member_name-y-requires
 member_name-y-requires c =
     (c.requires.1, (let e = few_members c.args.work.now c.args.k c.requires.3 in omega arith), c.requires.4)
 
-pub overflow_add-i : goal.overflow_add-i
-overflow_add-i c =
-    let e = few_members c.args.work.now c.args.m c.requires.2 in omega arith
-
-pub loop-left-smaller-then-x-y : goal.loop-left-smaller-then-x-y
-loop-left-smaller-then-x-y c = omega arith
-
 pub loop-left-preserved-then-x-y : goal.loop-left-preserved-then-x-y
 loop-left-preserved-then-x-y c = (
   omega arith,
   c.loop-left.invariant.1,
   first_lower c.requires.2 c.requires.3 c.member_count-across.ensures c.member_count-down.ensures c.loop-left.invariant.2 c.if-across-i.false c.if-down-j-2.false (omega arith),
 )
-
-pub overflow_add-j : goal.overflow_add-j
-overflow_add-j c =
-    let e = few_members c.args.work.now c.args.k c.requires.3 in omega arith
-
-pub loop-left-smaller-then-y-x : goal.loop-left-smaller-then-y-x
-loop-left-smaller-then-y-x c = omega arith
 
 pub loop-left-preserved-then-y-x : goal.loop-left-preserved-then-y-x
 loop-left-preserved-then-y-x c = (
@@ -71,18 +51,6 @@ match_at-left-requires c =
       second = (c.requires.1, omega arith, small_mentions c.args.work.now c.args.k c.requires.3 c.loop-left.j c.requires.1 (omega arith));
       named = omega arith;
     }
-
-pub overflow_add-i-in-loop-left : goal.overflow_add-i-in-loop-left
-overflow_add-i-in-loop-left c =
-    let e = few_members c.args.work.now c.args.m c.requires.2 in omega arith
-
-pub overflow_add-j-in-loop-left : goal.overflow_add-j-in-loop-left
-overflow_add-j-in-loop-left c =
-    let e = few_members c.args.work.now c.args.k c.requires.3 in omega arith
-
-pub loop-left-smaller : goal.loop-left-smaller
-loop-left-smaller c =
-    omega arith
 
 pub loop-left-preserved : goal.loop-left-preserved
 loop-left-preserved c =

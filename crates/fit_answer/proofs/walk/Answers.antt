@@ -1,16 +1,11 @@
-use mathlib.Core.Path.{refl, sym, ◌∙◌}
-use Rattle.fit_answer.proofs.WalkLaws.{by_kinds}
+use Rattle.std.proofs.Common.{rules}
+use mathlib.Core.Path.{◌≡◌}
+use mathlib.Core.Option.{some}
+use Rattle.fit_answer.specs.Told.{rows_walk}
+use Rattle.fit_answer.proofs.SheetLaws.{walk_says}
 use Rattle.fit_answer.proofs.walk.Goals as goal
 
-pub returns-in-Pure : goal.returns-in-Pure
-returns-in-Pure c =
-    c.walk_members.ensures ∙ by_kinds c.args.work.now c.args.a c.args.b (sym c.in-Pure.is ∙ c.kind_at.ensures) refl
-
-pub returns-in-Pure-kind_at : goal.returns-in-Pure-kind_at
-returns-in-Pure-kind_at c =
-    by_kinds c.args.work.now c.args.a c.args.b (sym c.in-Resource.is ∙ c.kind_at.ensures) (sym c.in-Pure-kind_at.is ∙ c.kind_at-in-Resource.ensures)
-
-pub returns-in-Resource-kind_at : goal.returns-in-Resource-kind_at
-returns-in-Resource-kind_at c =
-    c.walk_members-in-Resource-kind_at.ensures
-    ∙ by_kinds c.args.work.now c.args.a c.args.b (sym c.in-Resource.is ∙ c.kind_at.ensures) (sym c.in-Resource-kind_at.is ∙ c.kind_at-in-Resource.ensures)
+pub returns-in_default-clause-says : goal.returns-in_default-clause-says
+returns-in_default-clause-says c =
+    let e : some c.walk_members.result ≡ rows_walk c.args.sheet.now c.args.a c.args.b = search rules in
+    walk_says c.walk_members.ensures.whole c.args.a c.args.b e

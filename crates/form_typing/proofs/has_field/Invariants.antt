@@ -1,4 +1,3 @@
-use Prim.Native.Nat.{◌-◌}
 use lib.ListN.{drop}
 use mathlib.Core.Path.{◌≡◌}
 use Rattle.type_rules.specs.SlotRows.{members_at}
@@ -7,7 +6,4 @@ use Rattle.table.specs.View.{sheet_in}
 use Rattle.form_typing.proofs.has_field.Given as goal
 
 abbrev pub invariant-loop-j : goal.invariant-loop-j
-invariant-loop-j l = has_field (drop l.j (members_at (sheet_in l.work) l.a)) ≡ has_field (members_at (sheet_in l.work) l.a)
-
-abbrev pub decreases-loop-j : goal.decreases-loop-j
-decreases-loop-j l = l.count - l.j
+invariant-loop-j l = has_field (drop l.j (members_at (sheet_in l.sheet) l.a)) ≡ has_field (members_at (sheet_in l.sheet) l.a)

@@ -1,4 +1,9 @@
 use native.Mathlib.Omega.{arith}
+use Prim.Native.Nat.{ℕ}
+use mathlib.Core.Path.{ap, ◌∙◌}
+use mathlib.Core.List.{List}
+use Rattle.sheet_rules.specs.Sheet.{form_at}
+use Rattle.table.specs.View.{sheet_in}
 use Rattle.code_typing.proofs.CodeLaws.{slots_whole}
 use Rattle.form_typing.proofs.PartLaws.{body_judged}
 use Rattle.form_typing.proofs.judge_body.Goals as goal
@@ -9,4 +14,4 @@ judge_code-requires c =
 
 pub returns : goal.returns
 returns c =
-    body_judged c.args.res c.args.start c.form_row-own.ensures c.put_slots-filled.ensures c.wide.ensures c.judge_code.ensures
+    body_judged c.args.res c.args.start (c.form_row-own.ensures ∙ ap (λ (x : List ℕ). (form_at (sheet_in x) c.args.f).row) c.of.ensures) c.put_slots-filled.ensures c.wide.ensures c.judge_code.ensures

@@ -1,11 +1,11 @@
-use Prim.Native.Nat.{ℕ}
-use mathlib.Core.Path.{ap, ◌∙◌}
-use mathlib.Core.List.{List}
-use Rattle.instr_reader.specs.Reads.{last_five}
-use Rattle.instr_reader.proofs.StoreLaws.{stored_eleven}
+use native.Mathlib.Omega.{arith}
+use Rattle.std.proofs.Common.{rules}
+use mathlib.Core.Path.{◌≡◌}
+use lib.ListN.{length}
+use Rattle.instr_reader.proofs.StoreLaws.{stored_all}
 use Rattle.instr_reader.proofs.store_instr.Goals as goal
 
 pub returns : goal.returns
 returns c =
-    stored_eleven c.args.work.now c.store_tail.new.work c.args.p c.args.operation c.args.numbers c.requires.2
-    (c.store_tail.ensures ∙ ap (λ (x : List ℕ). last_five x c.args.p c.args.numbers) c.store_head.ensures)
+    let nine : length c.args.numbers.values ≡ 9 = search rules in
+    stored_all c.args.operation c.args.numbers.count c.requires.0 c.requires.1 nine c.put_operation.ensures c.loop-k-test.false (omega arith) c.loop-k.invariant

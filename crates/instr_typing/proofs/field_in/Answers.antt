@@ -1,26 +1,7 @@
-use native.Mathlib.Omega.{arith}
-use mathlib.Core.Path.{refl, ap}
+use mathlib.Core.Path.{refl}
 use Rattle.instr_typing.specs.Told.{row_found}
-use Rattle.instr_typing.proofs.FindLaws.{field_finds, member_asks, found_next, found_hit, found_end}
+use Rattle.instr_typing.proofs.FindLaws.{first_finds, field_finds}
 use Rattle.instr_typing.proofs.field_in.Goals as goal
 
-pub loop-j-init : goal.loop-j-init
-loop-j-init c = refl
-
-pub member-requires : goal.member-requires
-member-requires c = member_asks (field_finds c.args.name) c.requires c.wide-row.ensures c.members_at-count.ensures.0 c.loop-j.j c.loop-j-test.true
-
-pub returns-in_default : goal.returns-in_default
-returns-in_default c = found_hit (field_finds c.args.name) c.requires c.wide-row.ensures c.members_at-count.ensures.0 c.loop-j.j c.loop-j.invariant c.loop-j-test.true c.member.ensures (ap row_found c.in_default.is) c.field_of-found.ensures
-
-pub overflow_add-j : goal.overflow_add-j
-overflow_add-j c = omega arith
-
-pub loop-j-smaller : goal.loop-j-smaller
-loop-j-smaller c = omega arith
-
-pub loop-j-preserved : goal.loop-j-preserved
-loop-j-preserved c = found_next (field_finds c.args.name) c.requires c.wide-row.ensures c.members_at-count.ensures.0 c.loop-j.j c.loop-j.invariant c.loop-j-test.true c.member.ensures (ap row_found c.in-Missing.is) c.field_of-found.ensures
-
 pub returns : goal.returns
-returns c = found_end (field_finds c.args.name) c.requires c.wide-row.ensures c.members_at-count.ensures.0 c.loop-j.j c.loop-j.invariant c.loop-j-test.false
+returns c = first_finds c.find_member.ensures (field_finds c.args.name) row_found (λ m r p. p.1) refl (λ x. (x, refl))

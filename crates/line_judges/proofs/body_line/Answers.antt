@@ -1,26 +1,23 @@
-use mathlib.Core.Path.{ap}
-use mathlib.Core.Bool.{not}
-use Rattle.lists.proofs.Tests.{test_fails, test_holds}
-use Rattle.line_judges.proofs.LineLaws.{body_malformed, body_none, body_many, body_passed, body_good}
-use native.Mathlib.Omega.{arith}
+use mathlib.Core.Path.{refl, sym, ◌∙◌}
+use Rattle.line_judges.proofs.JudgeLaws.{demand_stops, demand_goes, demand_last}
+use Rattle.line_judges.proofs.LineLaws.{body_asks}
 use Rattle.line_judges.proofs.body_line.Goals as goal
 
-pub returns-then-not-here : goal.returns-then-not-here
-returns-then-not-here c =
-    body_malformed c.args.wanted c.requires c.args.used (test_fails c.same_place-here.ensures (ap not c.if-not-here.true))
+pub returns-in_err-demand : goal.returns-in_err-demand
+returns-in_err-demand c =
+    demand_stops _ _ c.same_place.ensures c.demand.ensures c.in_err-demand.was c.from_residual.result _ c.from_residual.ensures.1
+    ∙ sym (body_asks c.args.wanted c.requires c.args.used)
 
-pub returns-then-value-lt1 : goal.returns-then-value-lt1
-returns-then-value-lt1 c =
-    body_none c.args.wanted c.requires c.args.used (test_holds c.same_place-here.ensures (ap not c.if-not-here.false)) c.if-value-lt1.true
-
-pub returns-then-value-gt32 : goal.returns-then-value-gt32
-returns-then-value-gt32 c =
-    body_many c.args.wanted c.requires c.args.used (test_holds c.same_place-here.ensures (ap not c.if-not-here.false)) c.if-value-lt1.false c.if-value-gt32.true
-
-pub returns-then-value-used : goal.returns-then-value-used
-returns-then-value-used c =
-    body_passed c.args.wanted c.requires c.args.used (test_holds c.same_place-here.ensures (ap not c.if-not-here.false)) c.if-value-lt1.false c.if-value-gt32.false (omega (arith, c.if-value-gt32.false, c.if-value-used.true))
+pub returns-in_err-demand-2 : goal.returns-in_err-demand-2
+returns-in_err-demand-2 c =
+    demand_stops _ _ c.within.ensures c.demand-2.ensures c.in_err-demand-2.was
+    c.from_residual-in_err-demand-2.result _ c.from_residual-in_err-demand-2.ensures.1
+    ∙ demand_goes _ _ c.same_place.ensures c.demand.ensures c.in_ok-demand.was
+    ∙ sym (body_asks c.args.wanted c.requires c.args.used)
 
 pub returns : goal.returns
 returns c =
-    body_good c.args.wanted c.requires c.args.used (test_holds c.same_place-here.ensures (ap not c.if-not-here.false)) c.if-value-lt1.false c.if-value-gt32.false (omega (arith, c.if-value-gt32.false, c.if-value-used.false))
+    demand_last _ _ refl c.demand-3.ensures
+    ∙ demand_goes _ _ c.within.ensures c.demand-2.ensures c.in_ok-demand-2.was
+    ∙ demand_goes _ _ c.same_place.ensures c.demand.ensures c.in_ok-demand.was
+    ∙ sym (body_asks c.args.wanted c.requires c.args.used)

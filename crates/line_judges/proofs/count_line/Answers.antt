@@ -1,21 +1,15 @@
-use mathlib.Core.Path.{ap}
-use mathlib.Core.Bool.{not}
-use Rattle.lists.proofs.Tests.{test_fails, test_holds}
-use Rattle.line_judges.proofs.LineLaws.{count_malformed, count_low, count_high, count_good}
+use mathlib.Core.Path.{sym, ◌∙◌}
+use Rattle.line_judges.proofs.JudgeLaws.{demand_stops, demand_goes, demand_last}
+use Rattle.line_judges.proofs.LineLaws.{count_asks}
 use Rattle.line_judges.proofs.count_line.Goals as goal
 
-pub returns-then-not-here : goal.returns-then-not-here
-returns-then-not-here c =
-    count_malformed c.args.wanted c.requires c.args.low c.args.high (test_fails c.same_place-here.ensures (ap not c.if-not-here.true))
-
-pub returns-then-value-low : goal.returns-then-value-low
-returns-then-value-low c =
-    count_low c.args.wanted c.requires c.args.low c.args.high (test_holds c.same_place-here.ensures (ap not c.if-not-here.false)) c.if-value-low.true
-
-pub returns-then-high-value : goal.returns-then-high-value
-returns-then-high-value c =
-    count_high c.args.wanted c.requires c.args.low c.args.high (test_holds c.same_place-here.ensures (ap not c.if-not-here.false)) c.if-value-low.false c.if-high-value.true
+pub returns-in_err-demand : goal.returns-in_err-demand
+returns-in_err-demand c =
+    demand_stops _ _ c.same_place.ensures c.demand.ensures c.in_err-demand.was c.from_residual.result _ c.from_residual.ensures.1
+    ∙ sym (count_asks c.args.wanted c.requires c.args.low c.args.high)
 
 pub returns : goal.returns
 returns c =
-    count_good c.args.wanted c.requires c.args.low c.args.high (test_holds c.same_place-here.ensures (ap not c.if-not-here.false)) c.if-value-low.false c.if-high-value.false
+    demand_last _ _ c.within.ensures c.demand-2.ensures
+    ∙ demand_goes _ _ c.same_place.ensures c.demand.ensures c.in_ok-demand.was
+    ∙ sym (count_asks c.args.wanted c.requires c.args.low c.args.high)

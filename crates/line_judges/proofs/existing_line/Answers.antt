@@ -1,17 +1,15 @@
-use mathlib.Core.Path.{ap}
-use mathlib.Core.Bool.{not}
-use Rattle.lists.proofs.Tests.{test_fails, test_holds}
-use Rattle.line_judges.proofs.LineLaws.{existing_malformed, existing_not, existing_good}
+use mathlib.Core.Path.{refl, sym, ◌∙◌}
+use Rattle.line_judges.proofs.JudgeLaws.{demand_stops, demand_goes, demand_last}
+use Rattle.line_judges.proofs.LineLaws.{existing_asks}
 use Rattle.line_judges.proofs.existing_line.Goals as goal
 
-pub returns-then-not-here : goal.returns-then-not-here
-returns-then-not-here c =
-    existing_malformed c.args.wanted c.requires c.args.there (test_fails c.same_place-here.ensures (ap not c.if-not-here.true))
-
-pub returns-then-there-value : goal.returns-then-there-value
-returns-then-there-value c =
-    existing_not c.args.wanted c.requires c.args.there (test_holds c.same_place-here.ensures (ap not c.if-not-here.false)) c.if-there-value.true
+pub returns-in_err-demand : goal.returns-in_err-demand
+returns-in_err-demand c =
+    demand_stops _ _ c.same_place.ensures c.demand.ensures c.in_err-demand.was c.from_residual.result _ c.from_residual.ensures.1
+    ∙ sym (existing_asks c.args.wanted c.requires c.args.there)
 
 pub returns : goal.returns
 returns c =
-    existing_good c.args.wanted c.requires c.args.there (test_holds c.same_place-here.ensures (ap not c.if-not-here.false)) c.if-there-value.false
+    demand_last _ _ refl c.demand-2.ensures
+    ∙ demand_goes _ _ c.same_place.ensures c.demand.ensures c.in_ok-demand.was
+    ∙ sym (existing_asks c.args.wanted c.requires c.args.there)

@@ -1,21 +1,23 @@
-use mathlib.Core.Path.{ap}
-use mathlib.Core.Bool.{not}
-use Rattle.lists.proofs.Tests.{test_fails, test_holds}
-use Rattle.line_judges.proofs.LineLaws.{form_malformed, form_keeps, form_not, form_good}
+use mathlib.Core.Path.{refl, sym, ◌∙◌}
+use Rattle.line_judges.proofs.JudgeLaws.{demand_stops, demand_goes, demand_last}
+use Rattle.line_judges.proofs.LineLaws.{form_asks}
 use Rattle.line_judges.proofs.form_line.Goals as goal
 
-pub returns-then-not-here : goal.returns-then-not-here
-returns-then-not-here c =
-    form_malformed c.requires c.args.rows (test_fails c.same_place-here.ensures (ap not c.if-not-here.true))
+pub returns-in_err-demand : goal.returns-in_err-demand
+returns-in_err-demand c =
+    demand_stops _ _ c.same_place.ensures c.demand.ensures c.in_err-demand.was c.from_residual.result _ c.from_residual.ensures.1
+    ∙ sym (form_asks c.requires c.args.rows)
 
-pub returns-then-second-gt8 : goal.returns-then-second-gt8
-returns-then-second-gt8 c =
-    form_keeps c.requires c.args.rows (test_holds c.same_place-here.ensures (ap not c.if-not-here.false)) c.if-second-gt8.true
-
-pub returns-then-rows-first : goal.returns-then-rows-first
-returns-then-rows-first c =
-    form_not c.requires c.args.rows (test_holds c.same_place-here.ensures (ap not c.if-not-here.false)) c.if-second-gt8.false c.if-rows-first.true
+pub returns-in_err-demand-2 : goal.returns-in_err-demand-2
+returns-in_err-demand-2 c =
+    demand_stops _ _ refl c.demand-2.ensures c.in_err-demand-2.was
+    c.from_residual-in_err-demand-2.result _ c.from_residual-in_err-demand-2.ensures.1
+    ∙ demand_goes _ _ c.same_place.ensures c.demand.ensures c.in_ok-demand.was
+    ∙ sym (form_asks c.requires c.args.rows)
 
 pub returns : goal.returns
 returns c =
-    form_good c.requires c.args.rows (test_holds c.same_place-here.ensures (ap not c.if-not-here.false)) c.if-second-gt8.false c.if-rows-first.false
+    demand_last _ _ refl c.demand-3.ensures
+    ∙ demand_goes _ _ refl c.demand-2.ensures c.in_ok-demand-2.was
+    ∙ demand_goes _ _ c.same_place.ensures c.demand.ensures c.in_ok-demand.was
+    ∙ sym (form_asks c.requires c.args.rows)

@@ -1,34 +1,25 @@
-use mathlib.Core.Path.{ap}
-use mathlib.Core.Bool.{not}
-use Rattle.lists.proofs.Tests.{test_fails, test_holds}
-use Rattle.line_judges.proofs.LineLaws.{row_malformed, row_kind, row_members, row_good}
-use Rattle.line_judges.proofs.MemberLaws.{refused_not}
+use mathlib.Core.Path.{refl, sym, ◌∙◌}
+use Rattle.line_judges.proofs.JudgeLaws.{demand_stops, demand_goes, demand_last}
+use Rattle.line_judges.proofs.LineLaws.{row_asks}
 use Rattle.line_judges.proofs.row_line.Goals as goal
 
-pub returns-then-not-here : goal.returns-then-not-here
-returns-then-not-here c =
-    record {
-      told = λ earlier. row_malformed c.requires earlier (test_fails c.same_place-here.ensures (ap not c.if-not-here.true));
-      few = λ e. refused_not _ e;
-    }
+pub returns-in_err-demand-clause-told : goal.returns-in_err-demand-clause-told
+returns-in_err-demand-clause-told c =
+    λ earlier.
+    demand_stops _ _ c.same_place.ensures c.demand.ensures c.in_err-demand.was c.from_residual.result _ c.from_residual.ensures.1
+    ∙ sym (row_asks c.requires earlier)
 
-pub returns-then-first-gt1 : goal.returns-then-first-gt1
-returns-then-first-gt1 c =
-    record {
-      told = λ earlier. row_kind c.requires earlier (test_holds c.same_place-here.ensures (ap not c.if-not-here.false)) c.if-first-gt1.true;
-      few = λ e. refused_not _ e;
-    }
+pub returns-in_err-demand-2-clause-told : goal.returns-in_err-demand-2-clause-told
+returns-in_err-demand-2-clause-told c =
+    λ earlier.
+    demand_stops _ _ refl c.demand-2.ensures c.in_err-demand-2.was
+    c.from_residual-in_err-demand-2.result _ c.from_residual-in_err-demand-2.ensures.1
+    ∙ demand_goes _ _ c.same_place.ensures c.demand.ensures c.in_ok-demand.was
+    ∙ sym (row_asks c.requires earlier)
 
-pub returns-then-second-gt8 : goal.returns-then-second-gt8
-returns-then-second-gt8 c =
-    record {
-      told = λ earlier. row_members c.requires earlier (test_holds c.same_place-here.ensures (ap not c.if-not-here.false)) c.if-first-gt1.false c.if-second-gt8.true;
-      few = λ e. refused_not _ e;
-    }
-
-pub returns : goal.returns
-returns c =
-    record {
-      told = λ earlier. row_good c.requires earlier (test_holds c.same_place-here.ensures (ap not c.if-not-here.false)) c.if-first-gt1.false c.if-second-gt8.false;
-      few = λ e. c.if-second-gt8.false;
-    }
+pub returns-clause-told : goal.returns-clause-told
+returns-clause-told c =
+    λ earlier. demand_last _ _ refl c.demand-3.ensures
+    ∙ demand_goes _ _ refl c.demand-2.ensures c.in_ok-demand-2.was
+    ∙ demand_goes _ _ c.same_place.ensures c.demand.ensures c.in_ok-demand.was
+    ∙ sym (row_asks c.requires earlier)

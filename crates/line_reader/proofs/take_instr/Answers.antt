@@ -1,17 +1,19 @@
-use mathlib.Core.Path.{sym, ◌∙◌}
-use Rattle.line_judges.proofs.StrictLaws.{line_taken}
-use Rattle.line_reader.proofs.TakeLaws.{instr_torn, instr_line_lem}
+use mathlib.Core.Path.{sym, subst}
+use Rattle.line_reader.specs.Told.{InstrTold}
+use Rattle.line_reader.proofs.ExitLaws.{passed_on}
+use Rattle.line_reader.proofs.TakeLaws.{there_fitting, instr_stop, instr_told}
 use Rattle.line_reader.proofs.take_instr.Goals as goal
 
-pub returns-in_default : goal.returns-in_default
-returns-in_default c =
-    instr_torn c.args.text.now c.args.from (sym c.read_line.ensures ∙ c.in_default.is) c.args.forms c.args.filled
+pub returns-in_err-line : goal.returns-in_err-line
+returns-in_err-line c =
+    passed_on (InstrTold c.args.forms c.args.filled c.args.text.now c.args.from) c.from_residual.ensures.1
+    (instr_stop c.args.text.now c.args.from c.read_line.ensures c.in_err-line.was c.args.forms c.args.filled)
 
 pub instr_line-judged-requires : goal.instr_line-judged-requires
-instr_line-judged-requires c =
-    (line_taken c.args.text.now c.args.from.at _ _ _ (sym c.read_line.ensures ∙ c.in-Line.is)).fitting
+instr_line-judged-requires c = there_fitting c.args.text.now c.args.from c.read_line.ensures c.in_ok-line.was
 
 pub returns : goal.returns
 returns c =
-    instr_line_lem c.args.text.now c.args.from (sym c.read_line.ensures ∙ c.in-Line.is) c.requires c.args.forms c.args.filled
-    c.instr_line-judged.result c.instr_line-judged.ensures c.settle.ensures
+    subst (InstrTold c.args.forms c.args.filled c.args.text.now c.args.from) (sym c.settle.ensures)
+    (instr_told c.args.text.now c.args.from c.requires c.read_line.ensures c.in_ok-line.was c.args.forms c.args.filled
+    c.instr_line-judged.result c.instr_line-judged.ensures)

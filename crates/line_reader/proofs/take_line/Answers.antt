@@ -1,17 +1,19 @@
-use mathlib.Core.Path.{sym, ◌∙◌}
-use Rattle.line_judges.proofs.StrictLaws.{line_taken}
-use Rattle.line_reader.proofs.TakeLaws.{told_torn, told_line}
+use mathlib.Core.Path.{sym, subst}
+use Rattle.line_reader.specs.Told.{LineTold}
+use Rattle.line_reader.proofs.ExitLaws.{passed_on}
+use Rattle.line_reader.proofs.TakeLaws.{there_fitting, told_stop, told_line}
 use Rattle.line_reader.proofs.take_line.Goals as goal
 
-pub returns-in_default : goal.returns-in_default
-returns-in_default c =
-    told_torn c.args.text.now c.args.from (sym c.read_line.ensures ∙ c.in_default.is) c.args.wanted c.args.bound
+pub returns-in_err-line : goal.returns-in_err-line
+returns-in_err-line c =
+    passed_on (LineTold c.args.wanted c.args.bound c.args.text.now c.args.from) c.from_residual.ensures.1
+    (told_stop c.args.text.now c.args.from c.read_line.ensures c.in_err-line.was c.args.wanted c.args.bound)
 
 pub judge-judged-requires : goal.judge-judged-requires
-judge-judged-requires c =
-    (line_taken c.args.text.now c.args.from.at _ _ _ (sym c.read_line.ensures ∙ c.in-Line.is)).fitting
+judge-judged-requires c = there_fitting c.args.text.now c.args.from c.read_line.ensures c.in_ok-line.was
 
 pub returns : goal.returns
 returns c =
-    told_line c.args.text.now c.args.from (sym c.read_line.ensures ∙ c.in-Line.is) c.requires c.args.wanted c.args.bound
-    c.judge-judged.result c.judge-judged.ensures c.settle.ensures
+    subst (LineTold c.args.wanted c.args.bound c.args.text.now c.args.from) (sym c.settle.ensures)
+    (told_line c.args.text.now c.args.from c.requires c.read_line.ensures c.in_ok-line.was c.args.wanted c.args.bound
+    c.judge-judged.result c.judge-judged.ensures)

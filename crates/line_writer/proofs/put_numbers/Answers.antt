@@ -17,14 +17,6 @@ pub put_decimal-next-requires : goal.put_decimal-next-requires
 put_decimal-next-requires c =
     number_inside c.args.numbers.now c.args.from c.args.n c.loop-i.i c.requires.0 c.requires.1 c.loop-i.invariant.1 c.loop-i-test.true c.put_byte-next.ensures
 
-pub overflow_add-i : goal.overflow_add-i
-overflow_add-i c =
-    omega (arith, c.loop-i-test.true, c.ranges.n)
-
-pub loop-i-smaller : goal.loop-i-smaller
-loop-i-smaller c =
-    omega (arith, c.loop-i-test.true)
-
 pub loop-i-preserved : goal.loop-i-preserved
 loop-i-preserved c = (
   omega (arith, c.loop-i-test.true),

@@ -1,8 +1,5 @@
 use native.Mathlib.Omega.{arith}
-use mathlib.Core.Path.{refl}
-use Rattle.machine_rules.specs.Steps.{returned}
-use Rattle.machine.specs.declared.Move.{Move}
-use Rattle.machine.proofs.MoveLaws.{Tried-Taken, Tried-Moved, Moved-end, spent_instr, spent_return}
+use Rattle.machine.proofs.MoveLaws.{Tried-Moved, Moved-end, spent_instr, spent_return}
 use Rattle.machine.proofs.advance.Goals as goal
 
 pub returns-then-tally-most : goal.returns-then-tally-most
@@ -20,9 +17,3 @@ returns-then-tally-le1 c =
 pub returns-then-tally-most-2 : goal.returns-then-tally-most-2
 returns-then-tally-most-2 c =
     spent_return c.args.work.now c.args.top c.args.tally c.args.most c.if-top.false c.if-tally-le1.false c.if-tally-most-2.true
-
-pub returns : goal.returns
-returns c =
-    Tried-Moved c.args.work.now c.args.top c.args.tally c.args.most c.return_step.new.work (Move.Taken c.return_step.result c.without_frame.result)
-    (Tried-Taken c.args.work.now c.args.top c.args.tally c.return_step.new.work c.return_step.result (returned c.args.tally) c.without_frame.result c.return_step.ensures c.without_frame.ensures refl)
-    (omega (arith, c.requires.1, c.if-tally-most-2.false))

@@ -1,13 +1,6 @@
-use native.Mathlib.Omega.{arith}
 use mathlib.Core.Path.{◌∙◌}
-use Rattle.machine.proofs.StartLaws.{put_start, put_whole, put_there, put_next, put_end}
+use Rattle.machine.proofs.StartLaws.{put_whole, put_there, put_next, put_end}
 use Rattle.machine.proofs.put_devices.Goals as goal
-
-pub device_count-requires : goal.device_count-requires
-device_count-requires c = c.requires.size
-
-pub loop-d-init : goal.loop-d-init
-loop-d-init c = put_start c.args.work.now
 
 pub put_device-requires : goal.put_device-requires
 put_device-requires c =
@@ -23,12 +16,3 @@ pub returns : goal.returns
 returns c =
     let count = c.wide-count.ensures ∙ c.device_count.ensures in
     put_end c.loop-d.invariant c.requires count c.loop-d-test.false
-
-pub wide-count-requires : goal.wide-count-requires
-wide-count-requires c = tt
-
-pub overflow_add-d : goal.overflow_add-d
-overflow_add-d c = omega arith
-
-pub loop-d-smaller : goal.loop-d-smaller
-loop-d-smaller c = omega arith

@@ -1,11 +1,6 @@
 use mathlib.Core.Path.{refl}
-use Rattle.machine_rules.specs.Steps.{called}
-use Rattle.machine.proofs.MoveLaws.{Tried-Taken, call_stopped}
+use Rattle.machine.proofs.MoveLaws.{call_stopped}
 use Rattle.machine.proofs.try_call.Goals as goal
 
 pub returns-then-tally-ge-STACK : goal.returns-then-tally-ge-STACK
 returns-then-tally-ge-STACK c = (call_stopped c.args.work.now c.args.top c.args.tally c.args.v c.args.n c.args.a c.requires.0 c.if-tally-ge-STACK.true, refl)
-
-pub returns : goal.returns
-returns c =
-    Tried-Taken c.args.work.now c.args.top c.args.tally c.call_step.new.work c.call_step.result (called c.args.tally) c.with_frame.result c.call_step.ensures c.with_frame.ensures refl

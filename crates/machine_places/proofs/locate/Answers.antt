@@ -3,9 +3,6 @@ use mathlib.Core.Path.{◌∙◌}
 use Rattle.machine_places.proofs.StoringLaws.{forms_start, forms_whole, form_next, forms_end}
 use Rattle.machine_places.proofs.locate.Goals as goal
 
-pub form_count-count-requires : goal.form_count-count-requires
-form_count-count-requires c = c.requires
-
 pub loop-f-init : goal.loop-f-init
 loop-f-init c = (omega arith, forms_start c.args.work.now)
 
@@ -27,9 +24,3 @@ loop-f-preserved c = (
 pub returns : goal.returns
 returns c =
     forms_end c.args.work.now c.requires c.loop-f.work c.loop-f.f c.loop-f.invariant.1 (omega (arith, c.form_count-count.ensures.0))
-
-pub overflow_add-f : goal.overflow_add-f
-overflow_add-f c = omega arith
-
-pub loop-f-smaller : goal.loop-f-smaller
-loop-f-smaller c = omega arith

@@ -1,4 +1,4 @@
-use Prim.Native.Nat.{◌-◌, ◌≤◌}
+use Prim.Native.Nat.{◌≤◌}
 use mathlib.Core.Path.{◌≡◌}
 use Rattle.table.specs.View.{sheet_in}
 use Rattle.machine_places.specs.Placed.{forms_placed}
@@ -6,6 +6,3 @@ use Rattle.machine_places.proofs.locate.Given as goal
 
 abbrev pub invariant-loop-f : goal.invariant-loop-f
 invariant-loop-f l = (l.f ≤ l.count) × (l.work ≡ forms_placed (sheet_in l.initial.work) l.initial.work l.f)
-
-abbrev pub decreases-loop-f : goal.decreases-loop-f
-decreases-loop-f l = l.count - l.f

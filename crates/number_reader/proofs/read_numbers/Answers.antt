@@ -7,23 +7,14 @@ use Rattle.number_reader.proofs.read_numbers.Goals as goal
 pub loop-j-init : goal.loop-j-init
 loop-j-init c = Going-start c.requires.0 refl
 
-pub read_number-r-requires : goal.read_number-r-requires
-read_number-r-requires c =
-    (c.loop-j.invariant.room, c.requires.1, omega (arith, c.requires.2, c.loop-j-test.true, c.loop-j.invariant.only.size))
-
-pub returns-in_default : goal.returns-in_default
-returns-in_default c =
-    going_stop c.loop-j.invariant c.loop-j-test.true c.in_default.is (number_turn c.args.list c.loop-j.invariant c.loop-j-test.true c.read_number-r.ensures)
+pub returns-in_err-here : goal.returns-in_err-here
+returns-in_err-here c =
+    going_stop c.loop-j.invariant c.loop-j-test.true c.in_err-here.was (number_turn c.args.list c.loop-j.invariant c.loop-j-test.true c.read_number.ensures)
+    c.from_residual.ensures.1
 
 pub loop-j-preserved : goal.loop-j-preserved
 loop-j-preserved c =
-    Going-next c.loop-j.invariant c.loop-j-test.true c.in-Moved.is (number_turn c.args.list c.loop-j.invariant c.loop-j-test.true c.read_number-r.ensures)
+    Going-next c.loop-j.invariant c.loop-j-test.true c.in_ok-here.was (number_turn c.args.list c.loop-j.invariant c.loop-j-test.true c.read_number.ensures)
 
 pub returns : goal.returns
 returns c = going_end c.loop-j.invariant (omega arith)
-
-pub overflow_add-j : goal.overflow_add-j
-overflow_add-j c = omega arith
-
-pub loop-j-smaller : goal.loop-j-smaller
-loop-j-smaller c = omega arith

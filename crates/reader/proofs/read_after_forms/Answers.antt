@@ -16,22 +16,22 @@ returns-then-not-is_next c =
     none_read c.args.work.now c.put_device_count.ensures c.requires.2.size c.args.rows c.args.forms c.args.text.now c.args.from
     c.is_next.ensures (ap not c.if-not-is_next.true) c.read_main.ensures
 
-pub returns-in_default : goal.returns-in_default
-returns-in_default c =
+pub returns-in_err-here : goal.returns-in_err-here
+returns-in_err-here c =
     some_refused c.args.rows c.args.forms c.args.text.now c.args.from c.args.work.now c.is_next.ensures (ap not c.if-not-is_next.false)
-    c.read_devices-read.ensures c.in_default.is c.progress_verdict.ensures
+    c.read_devices.ensures c.in_err-here.was c.from_residual.result c.from_residual.ensures.1
 
 pub read_main-requires-2 : goal.read_main-requires-2
 read_main-requires-2 c =
-    let room = some_room c.args.rows c.args.forms c.args.text.now c.args.from c.args.work.now c.is_next.ensures (ap not c.if-not-is_next.false) c.read_devices-read.ensures c.in-Moved.is in (
+    let room = some_room c.args.rows c.args.forms c.args.text.now c.args.from c.args.work.now c.is_next.ensures (ap not c.if-not-is_next.false) c.read_devices.ensures c.in_ok-here.was in (
       room.0,
       c.requires.1,
-      devices_ready c.read_devices-read.ensures.only c.requires.2,
-      subst (FormsUsed _ c.args.forms) (sym room.1) (devices_used c.read_devices-read.ensures.only c.requires.3),
-      some_few c.args.rows c.args.forms c.args.text.now c.args.from c.args.work.now c.is_next.ensures (ap not c.if-not-is_next.false) c.read_devices-read.ensures c.in-Moved.is,
+      devices_ready c.read_devices.ensures.only c.requires.2,
+      subst (FormsUsed _ c.args.forms) (sym room.1) (devices_used c.read_devices.ensures.only c.requires.3),
+      some_few c.args.rows c.args.forms c.args.text.now c.args.from c.args.work.now c.is_next.ensures (ap not c.if-not-is_next.false) c.read_devices.ensures c.in_ok-here.was,
     )
 
 pub returns : goal.returns
 returns c =
     some_read c.args.rows c.args.forms c.args.text.now c.args.from c.args.work.now c.is_next.ensures (ap not c.if-not-is_next.false)
-    c.read_devices-read.ensures c.in-Moved.is c.read_main-2.ensures
+    c.read_devices.ensures c.in_ok-here.was c.read_main-2.ensures

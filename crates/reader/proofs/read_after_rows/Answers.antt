@@ -4,23 +4,23 @@ use Rattle.reader_loop.proofs.ThenLaws.{past}
 use Rattle.reader.proofs.SheetLaws.{forms_line_refused, forms_few, forms_refused, forms_ready, forms_used, forms_after}
 use Rattle.reader.proofs.read_after_rows.Goals as goal
 
-pub returns-in_default : goal.returns-in_default
-returns-in_default c =
-    forms_line_refused c.requires.2 c.take_line-head.ensures c.in_default.is c.stopped.ensures c.progress_verdict.ensures
+pub returns-in_err-head : goal.returns-in_err-head
+returns-in_err-head c =
+    forms_line_refused c.requires.2 c.take_line.ensures c.in_err-head.was c.from_residual.result c.from_residual.ensures.1
 
-pub read_forms-read-requires : goal.read_forms-read-requires
-read_forms-read-requires c =
-    let q = past c.in-Line.is c.take_line-head.ensures.onward in
-    (q.room, q.pool ∙ c.requires.1, forms_few c.requires.2 c.take_line-head.ensures c.in-Line.is, c.requires.2)
+pub read_forms-requires : goal.read_forms-requires
+read_forms-requires c =
+    let q = past c.in_ok-head.was c.take_line.ensures.onward in
+    (q.room, q.pool ∙ c.requires.1, forms_few c.requires.2 c.take_line.ensures c.in_ok-head.was, c.requires.2)
 
-pub returns-in_default-read : goal.returns-in_default-read
-returns-in_default-read c =
-    forms_refused c.requires.2 c.take_line-head.ensures c.in-Line.is c.read_forms-read.ensures c.in_default-read.is c.progress_verdict-in_default-read.ensures
+pub returns-in_err-here : goal.returns-in_err-here
+returns-in_err-here c =
+    forms_refused c.requires.2 c.take_line.ensures c.in_ok-head.was c.read_forms.ensures c.in_err-here.was c.from_residual-in_err-here.result c.from_residual-in_err-here.ensures.1
 
 pub read_after_forms-requires : goal.read_after_forms-requires
 read_after_forms-requires c =
-    ((Moved-on c.in-Moved.is c.read_forms-read.ensures.read.advanced).room, forms_few c.requires.2 c.take_line-head.ensures c.in-Line.is, forms_ready c.requires.2 c.take_line-head.ensures c.in-Line.is c.read_forms-read.ensures, forms_used c.requires.2 c.take_line-head.ensures c.in-Line.is c.read_forms-read.ensures c.in-Moved.is)
+    ((Moved-on c.in_ok-here.was c.read_forms.ensures.read.advanced).room, forms_few c.requires.2 c.take_line.ensures c.in_ok-head.was, forms_ready c.requires.2 c.take_line.ensures c.in_ok-head.was c.read_forms.ensures, forms_used c.requires.2 c.take_line.ensures c.in_ok-head.was c.read_forms.ensures c.in_ok-here.was)
 
 pub returns : goal.returns
 returns c =
-    forms_after c.requires.2 c.take_line-head.ensures c.in-Line.is c.read_forms-read.ensures c.in-Moved.is c.read_after_forms.ensures
+    forms_after c.requires.2 c.take_line.ensures c.in_ok-head.was c.read_forms.ensures c.in_ok-here.was c.read_after_forms.ensures

@@ -13,5 +13,5 @@ pub returns : goal.returns
 returns c =
     let e : suc (c.args.j - 1) ≡ c.args.j = omega (arith, c.if-j-eq0.false) in
     subst (λ (j : ℕ). Lowest (members_in c.args.work.now c.args.i j) (c.name_of.result + 1)) e
-    (Lowest-after (member_in c.args.work.now c.args.i) (c.args.j - 1) c.member-m.result c.member-m.ensures (c.name_of.result + 1)
+    (Lowest-after (member_in c.args.work.now c.args.i) (c.args.j - 1) c.member.result c.member.ensures (c.name_of.result + 1)
     (ap (λ (n : ℕ). n + 1) c.name_of.ensures.0))

@@ -24,9 +24,3 @@ loop-k-preserved c =
 
 pub returns : goal.returns
 returns c = sym (subst (λ (n : ℕ). twin (rows_in c.args.work.now n) (row_in c.args.work.now c.args.i) ≡ false) (omega arith) c.loop-k.invariant.1)
-
-pub overflow_add-k : goal.overflow_add-k
-overflow_add-k c = omega arith
-
-pub loop-k-smaller : goal.loop-k-smaller
-loop-k-smaller c = omega arith

@@ -7,6 +7,3 @@ use Rattle.row_twins.proofs.has_twin.Given as goal
 
 abbrev pub invariant-loop-k : goal.invariant-loop-k
 invariant-loop-k l = (l.k ≤ l.i) × (twin (rows_in l.work l.k) (row_in l.work l.i) ≡ false)
-
-abbrev pub decreases-loop-k : goal.decreases-loop-k
-decreases-loop-k l = l.i - l.k

@@ -36,9 +36,3 @@ loop-j-preserved c = (
 pub returns : goal.returns
 returns c =
     sym (subst (λ n. same_members (members_in c.args.work.now c.args.a n) (members_in c.args.work.now c.args.b n) ≡ true) (omega arith) c.loop-j.invariant.1)
-
-pub overflow_add-j : goal.overflow_add-j
-overflow_add-j c = omega arith
-
-pub loop-j-smaller : goal.loop-j-smaller
-loop-j-smaller c = omega arith

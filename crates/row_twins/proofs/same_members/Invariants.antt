@@ -7,6 +7,3 @@ use Rattle.row_twins.proofs.same_members.Given as goal
 
 abbrev pub invariant-loop-j : goal.invariant-loop-j
 invariant-loop-j l = (l.j ≤ l.count) × (same_members (members_in l.work l.a l.j) (members_in l.work l.b l.j) ≡ true)
-
-abbrev pub decreases-loop-j : goal.decreases-loop-j
-decreases-loop-j l = l.count - l.j

@@ -1,9 +1,5 @@
-use Prim.Native.Nat.{◌-◌}
 use Rattle.slot_notes.proofs.NoteLaws.{CodeNoting}
 use Rattle.slot_notes.proofs.note_instrs.Given as goal
 
 abbrev pub invariant-loop-q : goal.invariant-loop-q
 invariant-loop-q l = CodeNoting l.at l.p l.end l.initial.work l.work l.q
-
-abbrev pub decreases-loop-q : goal.decreases-loop-q
-decreases-loop-q l = l.end - l.q

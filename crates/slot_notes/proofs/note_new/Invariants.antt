@@ -1,4 +1,3 @@
-use Prim.Native.Nat.{◌-◌}
 use lib.ListN.{take}
 use Rattle.lists.specs.Contains.{contains}
 use Rattle.table.specs.Told.{new_slots}
@@ -7,6 +6,3 @@ use Rattle.slot_notes.proofs.note_new.Given as goal
 
 abbrev pub invariant-loop-k : goal.invariant-loop-k
 invariant-loop-k l = Noted l.at l.initial.work (contains (take l.k (new_slots l.initial.work l.p))) l.work
-
-abbrev pub decreases-loop-k : goal.decreases-loop-k
-decreases-loop-k l = l.count - l.k

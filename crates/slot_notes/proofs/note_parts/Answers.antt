@@ -3,10 +3,6 @@ use Rattle.slot_notes.proofs.NoteLaws.{Room-kept}
 use Rattle.slot_notes.proofs.FormNoteLaws.{parts_start, parts_next, form_small, part_small, parts_end}
 use Rattle.slot_notes.proofs.note_parts.Goals as goal
 
-pub part_count-count-requires : goal.part_count-count-requires
-part_count-count-requires c =
-    (form_small c.requires.1 c.requires.2, c.requires.0.size)
-
 pub loop-j-init : goal.loop-j-init
 loop-j-init c =
     (omega arith, parts_start c.args.at c.args.work.now c.args.f)
@@ -17,13 +13,6 @@ note_part-requires c = (
   form_small c.requires.1 c.requires.2,
   part_small c.requires.1 c.requires.2 c.part_count-count.ensures c.loop-j-test.true,
 )
-
-pub overflow_add-j : goal.overflow_add-j
-overflow_add-j c =
-    omega (arith, part_small c.requires.1 c.requires.2 c.part_count-count.ensures c.loop-j-test.true)
-
-pub loop-j-smaller : goal.loop-j-smaller
-loop-j-smaller c = omega (arith, c.loop-j-test.true)
 
 pub loop-j-preserved : goal.loop-j-preserved
 loop-j-preserved c = (

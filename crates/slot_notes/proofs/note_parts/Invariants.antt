@@ -1,10 +1,7 @@
-use Prim.Native.Nat.{◌-◌, ◌≤◌}
+use Prim.Native.Nat.{◌≤◌}
 use Rattle.slot_notes.specs.Noted.{Noted}
 use Rattle.slot_notes.proofs.FormNoteLaws.{parts_name}
 use Rattle.slot_notes.proofs.note_parts.Given as goal
 
 abbrev pub invariant-loop-j : goal.invariant-loop-j
 invariant-loop-j l = (l.j ≤ l.count) × Noted l.at l.initial.work (parts_name l.initial.work l.f l.j) l.work
-
-abbrev pub decreases-loop-j : goal.decreases-loop-j
-decreases-loop-j l = l.count - l.j

@@ -1,11 +1,6 @@
 use Rattle.slot_notes.proofs.NoteLaws.{Noted-nothing, Noted-slot, Noted-slots, Noted-instr}
 use Rattle.slot_notes.proofs.note_placed.Goals as goal
 
-pub returns-in-New : goal.returns-in-New
-returns-in-New c =
-    Noted-instr c.args.p c.instr_placed.ensures
-    c.in-New.is c.note_new.ensures
-
 pub returns-in-Call : goal.returns-in-Call
 returns-in-Call c =
     Noted-instr c.args.p c.instr_placed.ensures c.in-Call.is

@@ -1,10 +1,6 @@
-use Prim.Native.Nat.{◌-◌}
 use Rattle.table.specs.View.{sheet_in}
 use Rattle.typing.proofs.SheetLaws.{RowsWalk}
 use Rattle.typing.proofs.first_form_line.Given as goal
 
 abbrev pub invariant-loop-a : goal.invariant-loop-a
-invariant-loop-a l = RowsWalk (sheet_in l.work).rows l.a l.line
-
-abbrev pub decreases-loop-a : goal.decreases-loop-a
-decreases-loop-a l = l.count - l.a
+invariant-loop-a l = RowsWalk (sheet_in l.sheet).rows l.a l.line

@@ -1,17 +1,6 @@
-use mathlib.Core.Path.{ap}
-use mathlib.Core.Bool.{not}
-use lib.ListN.{length}
-use Rattle.question.proofs.AskedLaws.{room, turned_away, still_room, asked}
+use Rattle.std.proofs.Common.{refl}
+use Rattle.question.proofs.AskedLaws.{asked_alone}
 use Rattle.verdict_question.proofs.ask_verdict.Goals as goal
 
-pub returns-then-not-enough : goal.returns-then-not-enough
-returns-then-not-enough c = turned_away c.enough.ensures (ap not c.if-not-enough.true)
-
-pub judge_text-answer-requires : goal.judge_text-answer-requires
-judge_text-answer-requires c = (room (length c.args.work.now) 0 0 c.enough.ensures (ap not c.if-not-enough.false)).0
-
-pub clear-requires : goal.clear-requires
-clear-requires c = still_room 0 c.enough.ensures (ap not c.if-not-enough.false) c.judge_text-answer.ensures.answered
-
 pub returns : goal.returns
-returns c = asked c.enough.ensures (ap not c.if-not-enough.false) c.judge_text-answer.ensures.answered c.clear.ensures
+returns c = asked_alone refl c.ask.ensures.short c.ask.ensures.told (λ b b' x p. p)

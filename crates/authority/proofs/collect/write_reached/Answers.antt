@@ -1,7 +1,5 @@
-use Prim.Native.Nat.{ℕ}
 use native.Mathlib.Omega.{arith}
-use mathlib.Core.Path.{◌≡◌, subst}
-use Rattle.authority.specs.Laid.{is_reached, Written}
+use Rattle.authority.specs.Laid.{is_reached}
 use Rattle.authority.proofs.WrittenLaws.{Written-start, Written-few, Written-size, Written-next}
 use Rattle.authority.proofs.collect.write_reached.Goals as goal
 
@@ -16,20 +14,8 @@ write_one-count-requires c = (
   omega (arith, Written-size (is_reached c.args.work.now c.args.n) c.args.res.now c.loop-b.b c.loop-b.count c.loop-b.res c.loop-b.invariant.1 (omega (arith, c.requires.1, c.loop-b.invariant.0, c.requires.0.few)), c.requires.1),
 )
 
-pub overflow_add-b : goal.overflow_add-b
-overflow_add-b c =
-    omega (arith, c.loop-b-test.true, c.requires.0.few)
-
-pub loop-b-smaller : goal.loop-b-smaller
-loop-b-smaller c = omega (arith, c.loop-b-test.true)
-
 pub loop-b-preserved : goal.loop-b-preserved
 loop-b-preserved c = (
   omega (arith, c.loop-b-test.true),
   Written-next (is_reached c.args.work.now c.args.n) c.args.res.now c.loop-b.b c.loop-b.count c.loop-b.res c.write_one-count.new.res c.write_one-count.result c.loop-b.invariant.1 (omega (arith, c.requires.1, c.loop-b-test.true, c.requires.0.few)) c.write_one-count.ensures,
 )
-
-pub returns : goal.returns
-returns c =
-    let e : c.loop-b.b ≡ c.args.n = omega (arith, c.loop-b.invariant.0, c.loop-b-test.false) in
-    subst (λ (x : ℕ). Written (is_reached c.args.work.now c.args.n) x c.args.res.now c.loop-b.res c.loop-b.count) e c.loop-b.invariant.1

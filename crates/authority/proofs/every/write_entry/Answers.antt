@@ -1,5 +1,4 @@
 use native.Mathlib.Omega.{arith}
-use Rattle.authority.proofs.PutLaws.{entry_inside}
 use Rattle.authority.proofs.MemberLaws.{count_small}
 use Rattle.authority.proofs.EveryLaws.{holder_small, entry_asks, entry_written}
 use Rattle.authority.proofs.every.write_entry.Goals as goal
@@ -14,10 +13,6 @@ write_group-count-requires c =
 pub narrow-requires-2 : goal.narrow-requires-2
 narrow-requires-2 c =
     count_small c.requires.0 c.write_group-count.ensures
-
-pub bounds-res-at-2 : goal.bounds-res-at-2
-bounds-res-at-2 c =
-    entry_inside c.args.res.now c.write_group-count.new.res c.args.at c.narrow.result (omega (arith, c.requires.2, c.requires.3))
 
 pub returns : goal.returns
 returns c =

@@ -1,10 +1,6 @@
 use native.Mathlib.Omega.{arith}
-use Rattle.machine_steps.proofs.FacingLaws.{objects_few}
 use Rattle.authority.proofs.EveryLaws.{first_written, next_asks, next_written, every_written}
 use Rattle.authority.proofs.every.write_every.Goals as goal
-
-pub write_entry-at-requires : goal.write_entry-at-requires
-write_entry-at-requires c = (c.requires.0, tt, omega arith, c.requires.1)
 
 pub loop-b-init : goal.loop-b-init
 loop-b-init c =
@@ -13,14 +9,6 @@ loop-b-init c =
 pub write_object-at-requires : goal.write_object-at-requires
 write_object-at-requires c =
     next_asks c.args.work.now c.args.top c.args.tally c.requires.0 c.args.res.now c.requires.1 c.write_entry-at.new.work c.write_entry-at.new.res c.write_entry-at.result c.write_entry-at.ensures c.loop-b.work c.loop-b.res c.loop-b.at c.loop-b.b c.loop-b.invariant.1 c.loop-b.invariant.0 c.loop-b-test.true
-
-pub overflow_add-b : goal.overflow_add-b
-overflow_add-b c =
-    omega (arith, c.loop-b-test.true, objects_few c.args.work.now c.args.top c.args.tally c.requires.0.running)
-
-pub loop-b-smaller : goal.loop-b-smaller
-loop-b-smaller c =
-    omega (arith, c.loop-b-test.true)
 
 pub loop-b-preserved : goal.loop-b-preserved
 loop-b-preserved c = (

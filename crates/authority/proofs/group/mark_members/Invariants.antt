@@ -1,10 +1,6 @@
-use Prim.Native.Nat.{◌-◌}
-use lib.ListN.{length, take}
+use lib.ListN.{take}
 use Rattle.authority.specs.Members.{MembersMarked}
 use Rattle.authority.proofs.group.mark_members.Given as goal
 
-abbrev pub invariant-loop-i : goal.invariant-loop-i
-invariant-loop-i l = MembersMarked l.initial.work l.top l.tally (take l.i l.holders) l.work
-
-abbrev pub decreases-loop-i : goal.decreases-loop-i
-decreases-loop-i l = length l.holders - l.i
+abbrev pub invariant-loop-h : goal.invariant-loop-h
+invariant-loop-h l = MembersMarked l.initial.work l.top l.tally (take l.h-index l.holders) l.work

@@ -14,17 +14,17 @@ mark_top-requires c =
     let e : c.args.tally.frames - 1 ≡ pred c.args.tally.frames = omega arith in
     reach_top c.requires.0 c.args.h e c.mark_below-beneath.ensures
 
-pub returns-then-h-eq256 : goal.returns-then-h-eq256
-returns-then-h-eq256 c =
+pub returns-then-h-eq-MAIN_HOLDER : goal.returns-then-h-eq-MAIN_HOLDER
+returns-then-h-eq-MAIN_HOLDER c =
     let e : c.args.tally.frames - 1 ≡ pred c.args.tally.frames = omega arith in
-    reach_main c.requires.0 c.args.h e c.mark_below-beneath.ensures c.mark_top.ensures c.if-h-eq256.true
+    reach_main c.requires.0 c.args.h e c.mark_below-beneath.ensures c.mark_top.ensures c.if-h-eq-MAIN_HOLDER.true
 
 pub mark_own-requires : goal.mark_own-requires
 mark_own-requires c =
     let e : c.args.tally.frames - 1 ≡ pred c.args.tally.frames = omega arith in
-    reach_own c.requires.0 c.args.h e c.mark_below-beneath.ensures c.mark_top.ensures c.requires.1 c.if-h-eq256.false
+    reach_own c.requires.0 c.args.h e c.mark_below-beneath.ensures c.mark_top.ensures c.requires.1 c.if-h-eq-MAIN_HOLDER.false
 
 pub returns : goal.returns
 returns c =
     let e : c.args.tally.frames - 1 ≡ pred c.args.tally.frames = omega arith in
-    reach_object c.requires.0 c.args.h e c.mark_below-beneath.ensures c.mark_top.ensures c.requires.1 c.if-h-eq256.false c.mark_own.ensures
+    reach_object c.requires.0 c.args.h e c.mark_below-beneath.ensures c.mark_top.ensures c.requires.1 c.if-h-eq-MAIN_HOLDER.false c.mark_own.ensures

@@ -1,18 +1,7 @@
-use mathlib.Core.Path.{ap}
-use mathlib.Core.Bool.{not}
-use lib.ListN.{length}
-use Rattle.authority.specs.Every.{every_size}
-use Rattle.question.proofs.AskedLaws.{room, turned_away, still_room, asked}
+use Rattle.std.proofs.Common.{ap}
+use Rattle.std.specs.declared.result.Result.TheVariants.{Err}
+use Rattle.question.proofs.AskedLaws.{asked_into}
 use Rattle.authority_question.proofs.report.ask_report.Goals as goal
 
-pub returns-then-not-enough : goal.returns-then-not-enough
-returns-then-not-enough c = turned_away c.enough.ensures (ap not c.if-not-enough.true)
-
-pub report_of-reply-requires : goal.report_of-reply-requires
-report_of-reply-requires c = room (length c.args.work.now) every_size (length c.args.res.now) c.enough.ensures (ap not c.if-not-enough.false)
-
-pub clear-requires : goal.clear-requires
-clear-requires c = still_room every_size c.enough.ensures (ap not c.if-not-enough.false) c.report_of-reply.ensures
-
 pub returns : goal.returns
-returns c = asked c.enough.ensures (ap not c.if-not-enough.false) c.report_of-reply.ensures c.clear.ensures
+returns c = asked_into (ap Err c.at.ensures) c.ask_into.ensures.short c.ask_into.ensures.told (λ b d b' d' x p. p)

@@ -1,4 +1,3 @@
-use Prim.Native.Nat.{◌-◌}
 use lib.ListN.{drop}
 use Rattle.type_rules.specs.Typing.{forms_faults}
 use Rattle.table.specs.View.{sheet_in}
@@ -7,7 +6,4 @@ use Rattle.bound.proofs.ItemsLaws.{ItemsGoing}
 use Rattle.bound.proofs.calls.judge_forms.Given as goal
 
 abbrev pub invariant-loop-f : goal.invariant-loop-f
-invariant-loop-f l = ItemsGoing (λ i. forms_faults strict_lines (sheet_in l.work) i (drop i (sheet_in l.work).forms)) 273 l.first l.f l.line
-
-abbrev pub decreases-loop-f : goal.decreases-loop-f
-decreases-loop-f l = l.count - l.f
+invariant-loop-f l = ItemsGoing (λ i. forms_faults strict_lines (sheet_in l.sheet) i (drop i (sheet_in l.sheet).forms)) 273 l.first l.f l.line

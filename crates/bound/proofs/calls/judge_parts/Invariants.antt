@@ -1,4 +1,3 @@
-use Prim.Native.Nat.{◌-◌}
 use lib.ListN.{drop}
 use Rattle.sheet_rules.specs.Sheet.{form_at}
 use Rattle.type_rules.specs.Typing.{parts_faults}
@@ -10,7 +9,4 @@ use Rattle.bound.proofs.calls.judge_parts.Given as goal
 
 abbrev pub invariant-loop-j : goal.invariant-loop-j
 invariant-loop-j l =
-    ItemsGoing (λ i. parts_faults strict_lines (sheet_in l.work) l.f (form_at (sheet_in l.work) l.f) (drop i (members_in l.work l.f)) (drop i (parts_in l.work l.f))) 33 l.first l.j l.line
-
-abbrev pub decreases-loop-j : goal.decreases-loop-j
-decreases-loop-j l = l.count - l.j
+    ItemsGoing (λ i. parts_faults strict_lines (sheet_in l.sheet) l.f (form_at (sheet_in l.sheet) l.f) (drop i (members_in l.sheet l.f)) (drop i (parts_in l.sheet l.f))) 33 l.first l.j l.line

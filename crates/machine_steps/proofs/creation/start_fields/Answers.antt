@@ -1,12 +1,6 @@
 use native.Mathlib.Omega.{arith}
-use Rattle.machine_steps.proofs.CreationLaws.{Starting-start, starting_asks, Starting-next, starting_end}
+use Rattle.machine_steps.proofs.CreationLaws.{starting_asks, Starting-next, starting_end}
 use Rattle.machine_steps.proofs.creation.start_fields.Goals as goal
-
-pub part_count-count-requires : goal.part_count-count-requires
-part_count-count-requires c = (c.requires.form, c.requires.size)
-
-pub loop-j-init : goal.loop-j-init
-loop-j-init c = Starting-start c.args.work.now c.args.form c.args.o c.part_count-count.result
 
 pub returns-then-count-j : goal.returns-then-count-j
 returns-then-count-j c =
@@ -15,13 +9,6 @@ returns-then-count-j c =
 pub start_field-fields-requires : goal.start_field-fields-requires
 start_field-fields-requires c =
     starting_asks c.args.work.now c.args.form c.args.o c.part_count-count.result c.requires c.part_count-count.ensures c.loop-j.work c.loop-j.fields c.loop-j.j c.loop-j.invariant c.if-count-j.false
-
-pub overflow_add-j : goal.overflow_add-j
-overflow_add-j c =
-    omega (arith, c.loop-j-test.true)
-
-pub loop-j-smaller : goal.loop-j-smaller
-loop-j-smaller c = omega (arith, c.if-count-j.false)
 
 pub loop-j-preserved : goal.loop-j-preserved
 loop-j-preserved c =

@@ -1,4 +1,4 @@
-use Rattle.machine_steps.proofs.CallLaws.{form_in, object_filled, argument_filled, name_small, save_asks, own_small, enter_asks, callee_small, part_small, body_ends, call_took}
+use Rattle.machine_steps.proofs.CallLaws.{form_in, object_filled, argument_filled, name_small, save_asks, own_small, enter_asks, callee_small, part_small, call_took}
 use native.Mathlib.Omega.{arith}
 use Prim.Native.Nat.{ℕ, ◌+◌}
 use mathlib.Core.Path.{sym, ap, ◌∙◌, subst}
@@ -32,10 +32,6 @@ body_start-start-requires c =
 pub body_count-requires : goal.body_count-requires
 body_count-requires c =
     (callee_small c.args.work.now c.args.top c.args.tally c.args.v c.args.n c.args.a c.requires.0 c.frame_of-f.result c.frame_of-f.ensures c.slot-own.result c.slot-own.ensures c.form_of-form.result (c.form_of-form.ensures ∙ ap (λ (y : ℕ). cell c.args.work.now (object_address y)) c.wide.ensures), part_small c.args.work.now c.args.top c.args.tally c.args.v c.args.n c.args.a c.requires.0 c.frame_of-f.result c.frame_of-f.ensures c.slot-own.result c.slot-own.ensures c.form_of-form.result (c.form_of-form.ensures ∙ ap (λ (y : ℕ). cell c.args.work.now (object_address y)) c.wide.ensures) c.place-part.result c.place-part.ensures, size c.args.work.now c.args.top c.args.tally c.requires.0.running)
-
-pub overflow_add-end : goal.overflow_add-end
-overflow_add-end c =
-    omega (arith, body_ends c.args.work.now c.args.top c.args.tally c.args.v c.args.n c.args.a c.requires.0 c.frame_of-f.result c.frame_of-f.ensures c.slot-own.result c.slot-own.ensures c.form_of-form.result (c.form_of-form.ensures ∙ ap (λ (y : ℕ). cell c.args.work.now (object_address y)) c.wide.ensures) c.place-part.result c.place-part.ensures c.body_start-start.result c.body_start-start.ensures c.body_count.result c.body_count.ensures)
 
 pub keeps_of-count-requires : goal.keeps_of-count-requires
 keeps_of-count-requires c =

@@ -1,6 +1,6 @@
 use native.Mathlib.Omega.{arith}
 use Rattle.machine_steps.proofs.FacingLaws.{size}
-use Rattle.machine_steps.proofs.ReturnLaws.{last_filled, last_small, f_some, f_small, b_small, returned-Took}
+use Rattle.machine_steps.proofs.ReturnLaws.{last_filled, last_small, f_small, b_small, returned-Took}
 use Rattle.machine_steps.proofs.frames.return_step.Goals as goal
 
 pub overflow_sub-top : goal.overflow_sub-top
@@ -13,19 +13,11 @@ slot-value-requires c = (
   size c.args.work.now c.args.top c.args.tally c.requires.0,
 )
 
-pub overflow_sub-f : goal.overflow_sub-f
-overflow_sub-f c =
-    f_some c.args.work.now c.args.top c.args.tally c.requires.0 c.requires.1 c.requires.2 c.frame_of-f.result c.frame_of-f.ensures
-
 pub restore-below-requires : goal.restore-below-requires
 restore-below-requires c = (
   omega (arith, f_small c.args.work.now c.args.top c.args.tally c.requires.0 c.requires.1 c.requires.2 c.frame_of-f.result c.frame_of-f.ensures),
   size c.args.work.now c.args.top c.args.tally c.requires.0,
 )
-
-pub overflow_sub-f-2 : goal.overflow_sub-f-2
-overflow_sub-f-2 c =
-    f_some c.args.work.now c.args.top c.args.tally c.requires.0 c.requires.1 c.requires.2 c.frame_of-f.result c.frame_of-f.ensures
 
 pub put_slot-requires : goal.put_slot-requires
 put_slot-requires c = (
@@ -33,10 +25,6 @@ put_slot-requires c = (
   omega (arith, b_small c.args.work.now c.args.top c.args.tally c.requires.0 c.requires.1 c.requires.2 c.frame_of-f.result c.frame_of-f.ensures c.restore-below.result c.restore-below.ensures),
   size c.args.work.now c.args.top c.args.tally c.requires.0,
 )
-
-pub overflow_add-result : goal.overflow_add-result
-overflow_add-result c =
-    omega (arith, b_small c.args.work.now c.args.top c.args.tally c.requires.0 c.requires.1 c.requires.2 c.frame_of-f.result c.frame_of-f.ensures c.restore-below.result c.restore-below.ensures)
 
 pub returns : goal.returns
 returns c =

@@ -1,4 +1,0 @@
-use Rattle.machine_state.proofs.restore.Goals as goal
-
-pub returns : goal.returns
-returns c = cc

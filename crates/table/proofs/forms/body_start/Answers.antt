@@ -1,8 +1,0 @@
-use Prim.Native.Nat.{ℕ, ◌+◌}
-use mathlib.Core.Path.{ap, ◌∙◌}
-use Rattle.table.specs.View.{cell}
-use Rattle.table.proofs.FormLaws.{part_address_lem}
-use Rattle.table.proofs.forms.body_start.Goals as goal
-
-pub returns : goal.returns
-returns c = c.wide.ensures ∙ ap (λ (x : ℕ). cell c.args.work.now (x + 1)) (part_address_lem c.args.f c.args.j c.requires.0 c.requires.1)
