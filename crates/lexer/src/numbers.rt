@@ -1,5 +1,5 @@
 // The numbers of a line.
-ghost use Rattle.std.specs.Prelude.{◌≡◌, ◌≤◌, ◌<◌, ◌+◌, [], ◌∷◌, ◌++◌, set, replicate};
+ghost use Rattle.std.specs.Prelude.{◌≡◌, ◌≤◌, ◌<◌, ◌+◌, [], ◌∷◌, ◌++◌, cond, eqb, set, replicate};
 
 // Nine at the most.
 #[derive(Clone, Copy, Debug, PartialEq, Eq)]
@@ -7,6 +7,16 @@ pub struct Numbers {
     pub count: u16,
     pub values: [u16; 9],
     pub ghost few: { count ≤ 9 },
+}
+
+// The number v if place i is the one sought, and else the number there. By itself, so that the compiler chooses and does not jump.
+fn at_place(sought: u16, i: u16, v: u16, there: u16) -> u16
+    ensures { result ≡ cond (eqb sought i) v there }
+{
+    if sought == i {
+        return v;
+    }
+    there
 }
 
 impl Numbers {
@@ -33,7 +43,11 @@ impl Numbers {
         ensures values { result.values ≡ set self.values self.count v }
     {
         let mut values = self.values;
-        values[self.count as usize] = v;
+        // Each place is written, so that the array stays in registers: were the number stored by its index, the copies after it would
+        // wait for that store.
+        for i in 0..9 {
+            values[i as usize] = at_place(self.count, i, v, values[i as usize]);
+        }
         Numbers {
             count: self.count + 1,
             values,

@@ -15,11 +15,27 @@ fn same_kind(a: Kind, b: Kind) -> bool
     a == b
 }
 
-// Two members are the same.
+// Two members are the same. Their numbers are compared one after another: by the derived equality, for which the compiler brings two of
+// them together first, the fit table took up to 1.3 times the instructions.
 pub fn same_member(a: Member, b: Member) -> bool
     ensures { result ≡ same_member a b }
 {
-    a == b
+    match (a, b) {
+        (
+            Member::Method {
+                name,
+                argument,
+                result,
+            },
+            Member::Method {
+                name: n,
+                argument: p,
+                result: q,
+            },
+        ) => name == n && argument == p && result == q,
+        (Member::Field { name, row }, Member::Field { name: n, row: p }) => name == n && row == p,
+        _ => false,
+    }
 }
 
 // The first members of two rows are the same.
