@@ -69,6 +69,15 @@ fn instr_from(work: &[u16], at: usize) -> Instruction
     }
 }
 
+// The instruction at place p of the pool.
+#[tactic(auto, using(crate::proofs::InstrLaws::slots_within, crate::proofs::InstrLaws::instr_within))]
+pub fn instr_at(work: &[u16], p: usize) -> Instruction
+    requires { work_size ≤ length work.now }
+    ensures { instr_told (new_slots work.now p) result ≡ instr_in work.now p }
+{
+    instr_placed(work, within_pool(p))
+}
+
 // The same for a place that is known to be in the pool: nothing is tested.
 pub fn instr_placed(work: &[u16], p: usize) -> Instruction
     requires { (p < 1024) × (work_size ≤ length work.now) }
@@ -102,6 +111,18 @@ pub fn new_slot_count(work: &[u16], p: usize) -> usize
 {
     let count = wide(work[instr_address(within_pool(p)) + 1]);
     count.min(NUMBER_COUNT).saturating_sub(1)
+}
+
+// Slot k that the `new` at place p of the pool names.
+#[tactic(auto, using(crate::proofs::InstrLaws::slots_within, crate::proofs::InstrLaws::slot_missing))]
+pub fn new_slot(work: &[u16], p: usize, k: usize) -> u16
+    requires { work_size ≤ length work.now }
+    ensures { result ≡ get_or (new_slots work.now p) k 0 }
+{
+    if new_slot_count(work, p) <= k {
+        return 0;
+    }
+    slot_named(work, within_pool(p), k)
 }
 
 // The same for a slot that is known to be named: nothing is tested.

@@ -9,7 +9,7 @@ ghost use Rattle.table.specs.View.{cell as cell_of, part_in, instr_in, sheet_in}
 ghost use Rattle.table.specs.Whole.{Whole};
 
 use crate::forms::{PartPlace, kept};
-use crate::instrs::{Instruction, instr_placed, slot_named, within_pool};
+use crate::instrs::Instruction;
 use crate::rows::row_kind;
 use sheet_rules::{Kind, Member};
 use std::marker::Model;
@@ -142,11 +142,10 @@ impl<'a> Sheet<'a> {
     }
 
     // The instruction at place p of the pool.
-    #[tactic(auto, using(crate::proofs::InstrLaws::slots_within, crate::proofs::InstrLaws::instr_within))]
     pub fn instr_at(&self, p: usize) -> Instruction
         ensures { instr_told (new_slots self.now p) result ≡ instr_in self.now p }
     {
-        instr_placed(self.work, within_pool(p))
+        crate::instrs::instr_at(self.work, p)
     }
 
     // How many slots the `new` at place p of the pool names.
@@ -157,14 +156,10 @@ impl<'a> Sheet<'a> {
     }
 
     // Slot k that the `new` at place p of the pool names.
-    #[tactic(auto, using(crate::proofs::InstrLaws::slots_within, crate::proofs::InstrLaws::slot_missing))]
     pub fn new_slot(&self, p: usize, k: usize) -> u16
         ensures { result ≡ get_or (new_slots self.now p) k 0 }
     {
-        if self.new_slot_count(p) <= k {
-            return 0;
-        }
-        slot_named(self.work, within_pool(p), k)
+        crate::instrs::new_slot(self.work, p, k)
     }
 
     // Where main's instructions begin.
