@@ -21,11 +21,11 @@ use Rattle.form_scan.specs.Borders.{first_line, line_length, border_place}
 
 -- THE FIRST LINE
 
-first_ends : (b : ℕ) (bs : List ℕ) → eqb b newline ≡ true → first_line (b ∷ bs) ≡ b ∷ []
+pub first_ends : (b : ℕ) (bs : List ℕ) → eqb b newline ≡ true → first_line (b ∷ bs) ≡ b ∷ []
 unfolding text_lines
 first_ends b bs e = ap (λ (x : Bool). get_or (cond x ((b ∷ []) ∷ text_lines bs) (in_front b (text_lines bs))) 0 []) e
 
-first_more : (b : ℕ) (bs : List ℕ) → eqb b newline ≡ false → first_line (b ∷ bs) ≡ b ∷ first_line bs
+pub first_more : (b : ℕ) (bs : List ℕ) → eqb b newline ≡ false → first_line (b ∷ bs) ≡ b ∷ first_line bs
 unfolding text_lines
 first_more b bs e = ap (λ (x : Bool). get_or (cond x ((b ∷ []) ∷ text_lines bs) (in_front b (text_lines bs))) 0 []) e ∙ front (text_lines bs)
   where
@@ -75,7 +75,7 @@ line_cut bs x rest i e n m =
 
 -- A BORDER IS TOLD BY ITS FIRST WORD
 
-begins_word : (w bs : List ℕ) → starts_with eqb bs w ≡ begins w bs
+pub begins_word : (w bs : List ℕ) → starts_with eqb bs w ≡ begins w bs
 unfolding begins
 begins_word [] bs = refl
 begins_word (c ∷ cs) [] = refl

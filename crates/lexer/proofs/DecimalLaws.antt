@@ -122,9 +122,11 @@ too_large q ps h t =
     let e : value_of (q ++ r.0) ≡ value_from (value_of q) r.0 = value_from-append 0 q r.0 in
     omega arith
 
--- the result of scanning numbers whose pieces, with what was written before, are ps, in a line that ends before place j
+-- the result of scanning numbers whose pieces, with what was written before, are ps, in a line that ends before place j: after eight
+-- numbers at the most there are nine at the most
 pub data Scanned (ns : List ℕ) (ps : List (List ℕ)) (j : ℕ) : Option (List ℕ × ℕ) → Type 0 where
-  found : {r : List ℕ × ℕ} → T (all_decimals ps) → r.0 ≡ ns ++ values ps → r.1 ≡ j → Scanned ns ps j (Some r)
+  found : {r : List ℕ × ℕ} → T (all_decimals ps) → r.0 ≡ ns ++ values ps → r.1 ≡ j → (length ns ≤ 8 → length r.0 ≤ 9)
+      → Scanned ns ps j (Some r)
   lost : (T (all_decimals ps) → 9 < length ns + length ps) → Scanned ns ps j None
 
 -- no byte of the list is c
@@ -141,12 +143,12 @@ unfolding split_on
 split_on_other c b bs ne = ap (λ (x : Bool). cond x ([] ∷ split_on c bs) (in_front b (split_on c bs))) (ne_eqb b c ne)
 
 -- a number that ends at a comma
-pub after_comma : (ns : List ℕ) (v : ℕ) (q : List ℕ) (ps : List (List ℕ)) (j : ℕ) (r : Option (List ℕ × ℕ)) → T (is_decimal q) → value_of q ≡ v
-    → Scanned (ns ++ (v ∷ [])) ps j r → Scanned ns (q ∷ ps) j r
+pub after_comma : (ns : List ℕ) (v : ℕ) (q : List ℕ) (ps : List (List ℕ)) (j : ℕ) (r : Option (List ℕ × ℕ)) → length ns < 8
+    → T (is_decimal q) → value_of q ≡ v → Scanned (ns ++ (v ∷ [])) ps j r → Scanned ns (q ∷ ps) j r
 unfolding all_decimals values
-after_comma ns v q ps j (Some r) d e (found t l p) =
+after_comma ns v q ps j (Some r) m d e (found t l p c) =
     found (and_intro (is_decimal q) (all_decimals ps) d t)
     (l ∙ append_snoc ns v (values ps) ∙ ap (λ (n : ℕ). ns ++ (n ∷ values ps)) (sym e))
-    p
-after_comma ns v q ps j None d e (lost f) =
+    p (λ _. c (omega (arith, m, length-append ns (v ∷ []))))
+after_comma ns v q ps j None m d e (lost f) =
     lost (λ t. omega (arith, f (and_right (is_decimal q) (all_decimals ps) t), length-append ns (v ∷ [])))

@@ -19,7 +19,7 @@ use Rattle.lexer.specs.declared.Part.{Part}
 use Rattle.lexer.specs.declared.Part.TheVariants.{Empty, Zero, Digits}
 use Rattle.lexer.specs.declared.Turn.{Turn}
 use Rattle.lexer.specs.declared.Turn.TheVariants.{More, Comma, End, Torn}
-use Rattle.lexer.specs.Scan.{end_turn, turn_of, on_turn, numbers_scan, key_scan, word_code, place_of_code, line_at}
+use Rattle.lexer.specs.Scan.{end_turn, turn_of, comma_limit, on_turn, numbers_scan, key_scan, word_code, place_of_code, line_at}
 use Rattle.lexer.proofs.ScanSteps.{key_later, line_no_key, line_no_numbers, line_whole}
 use Rattle.lexer.proofs.DecimalLaws.{Lacks, Scanned, found, lost, none_yet}
 use Rattle.lexer.proofs.NumberScan.{glue_none, scanned}
@@ -68,7 +68,7 @@ numbers_open (b ∷ bs) l ns p i = go (turn_of p b) (turn_of-Open p b l.0) (λ n
     go : (t : Turn) → Open t → ((ns' : List ℕ) (p' : Part) → numbers_scan ns' p' (i + 1) bs ≡ None)
         → on_turn t ns i (λ ns' p'. numbers_scan ns' p' (i + 1) bs) ≡ None
     go (More q) open_more h = h ns q
-    go (Comma v) open_comma h = either (ltb (length ns) 8) (h (ns ++ (v ∷ [])) Empty)
+    go (Comma v) open_comma h = either (ltb (length ns) comma_limit) (h (ns ++ (v ∷ [])) Empty)
       where
         either : (x : Bool) → numbers_scan (ns ++ (v ∷ [])) Empty (i + 1) bs ≡ None
             → cond x (numbers_scan (ns ++ (v ∷ [])) Empty (i + 1) bs) None ≡ None
@@ -152,7 +152,7 @@ module _ (text : List ℕ) (i : ℕ) (q rest : List ℕ) (e : drop i text ≡ q 
     numbers_here None f (lost g) =
         subst (Found text i) (sym (line_no_numbers text i a k f))
         (no_line (Refusing-here (subst Hopeless (sym the_line) (numbers_lost u (split_on comma v) g))))
-    numbers_here (Some r) f (found d g o) =
+    numbers_here (Some r) f (found d g o _) =
         go (takes (place_of_code a.0) (length r.0)) refl
       where
         past-it : drop r.1 text ≡ rest

@@ -6,8 +6,8 @@ use mathlib.Core.Path.{◌≡◌, refl, sym, ap, ◌∙◌, subst}
 use mathlib.Core.Bool.{Bool, true, false, cond, ◌&&◌}
 use mathlib.Core.List.{List, [], ◌∷◌, ◌++◌, append-nil}
 use lib.Dec.{T, eqb, leb, ltb}
-use lib.ListN.{length}
-use borrow.Author.Tests.{le-ltb, ne_eqb, le-leb, ltb-false, leb-true, leb-false, eqb-true, eqb-false}
+use lib.ListN.{length, length-append}
+use borrow.Author.Tests.{le-ltb, ne_eqb, le-leb, ltb-true, ltb-false, leb-true, leb-false, eqb-true, eqb-false}
 use Rattle.lists.proofs.Tests.{and_left, and_right, and_intro}
 use Rattle.std.specs.declared.option.Option.{Option}
 use Rattle.std.specs.declared.option.Option.TheVariants.{None}
@@ -17,7 +17,7 @@ use Rattle.lexer.specs.declared.Part.{Part}
 use Rattle.lexer.specs.declared.Part.TheVariants.{Empty, Zero, Digits}
 use Rattle.lexer.specs.declared.Turn.{Turn}
 use Rattle.lexer.specs.declared.Turn.TheVariants.{More, Comma, Torn}
-use Rattle.lexer.specs.Scan.{PartFits, end_turn, turn_of, on_turn, numbers_scan}
+use Rattle.lexer.specs.Scan.{PartFits, end_turn, turn_of, comma_limit, on_turn, numbers_scan}
 use Rattle.lexer.proofs.DecimalLaws.{all_digits_snoc, value_from-append, Written, none_yet, a_zero, some_digits, glue, glue_step, digits_decimal, not_a_digit, digit_after_zero, too_large, Scanned, found, lost, Lacks, split_on_other, after_comma}
 
 -- what a byte is to the numbers of a line
@@ -105,18 +105,22 @@ one_value : (b : ℕ) → value_of (b ∷ []) ≡ b - digit0
 unfolding value_from
 one_value b = omega arith
 
+-- one number more
+one_more : (ns : List ℕ) (v : ℕ) → length ns ≤ 8 → length (ns ++ (v ∷ [])) ≤ 9
+one_more ns v m = omega (arith, m, length-append ns (v ∷ []))
+
 -- a line's end
 Scanned-end : (ns : List ℕ) (p : Part) (w : List ℕ) → Written p w → PartFits p → (i : ℕ) (rest : List ℕ)
     → Scanned ns (glue w ([] ∷ [])) (i + 1) (numbers_scan ns p i (newline ∷ rest))
 unfolding numbers_scan glue all_decimals is_decimal all_digits value_from values
 Scanned-end ns Empty [] none_yet f i rest = lost (λ t. absurd t)
-Scanned-end ns Zero (_ ∷ []) a_zero f i rest = found tt refl refl
+Scanned-end ns Zero (_ ∷ []) a_zero f i rest = found tt refl refl (one_more ns 0)
 Scanned-end ns (Digits v) (b ∷ bs) (some_digits d ne e) f i rest =
     found
     (and_intro (is_decimal (b ∷ (bs ++ []))) true
     (subst (λ (l : List ℕ). T (is_decimal l)) (sym (append-nil (b ∷ bs))) (digits_decimal v b bs d ne e f)) tt)
     (ap (λ (n : ℕ). ns ++ (n ∷ [])) (sym e ∙ ap value_of (sym (append-nil (b ∷ bs)))))
-    refl
+    refl (one_more ns v)
 Scanned-end ns Empty (b ∷ bs) x4 f i rest = elim x4 [ ]
 Scanned-end ns Zero [] x4 f i rest = elim x4 [ ]
 Scanned-end ns Zero (b ∷ (_ ∷ _)) x9 f i rest = elim x9 [ ]
@@ -133,19 +137,19 @@ module _ (q rest : List ℕ) (later : Later q rest) (ns : List ℕ) (i : ℕ) wh
       → Scanned ns (w ∷ split_on comma q) (i + suc (suc (length q)))
       (on_turn (Comma v) ns i (λ ns' p'. numbers_scan ns' p' (i + 1) (q ++ (newline ∷ rest))))
   unfolding all_decimals
-  Scanned-comma v w d e = go (ltb (length ns) 8) refl
+  Scanned-comma v w d e = go (ltb (length ns) comma_limit) refl
     where
-      go : (x : Bool) → ltb (length ns) 8 ≡ x
+      go : (x : Bool) → ltb (length ns) comma_limit ≡ x
           → Scanned ns (w ∷ split_on comma q) (i + suc (suc (length q)))
           (cond x (numbers_scan (ns ++ (v ∷ [])) Empty (i + 1) (q ++ (newline ∷ rest))) None)
       go true t =
-          after_comma ns v w (split_on comma q) (i + suc (suc (length q))) _ d e
+          after_comma ns v w (split_on comma q) (i + suc (suc (length q))) _ (ltb-true (length ns) comma_limit t) d e
           (subst (λ (ps : List (List ℕ)). Scanned (ns ++ (v ∷ [])) ps (i + suc (suc (length q))) (numbers_scan (ns ++ (v ∷ [])) Empty (i + 1) (q ++ (newline ∷ rest))))
           (glue_none comma q)
           (subst (λ (j : ℕ). Scanned (ns ++ (v ∷ [])) (glue [] (split_on comma q)) j (numbers_scan (ns ++ (v ∷ [])) Empty (i + 1) (q ++ (newline ∷ rest))))
           (let z : i + 1 + suc (length q) ≡ i + suc (suc (length q)) = omega arith in z)
           (later (ns ++ (v ∷ [])) Empty [] none_yet tt (i + 1))))
-      go false t = let n : 8 ≤ length ns = ltb-false (length ns) 8 t in lost (λ _. omega (arith, split_some comma q))
+      go false t = let n : comma_limit ≤ length ns = ltb-false (length ns) comma_limit t in lost (λ _. omega (arith, split_some comma q))
 
   -- one digit more of the number in progress
   Scanned-digit : (b : ℕ) → (b ≡ comma → ⊥) → (w : List ℕ) (p' : Part) → Written p' (w ++ (b ∷ [])) → PartFits p'

@@ -2,20 +2,23 @@
 use Prim.Native.Nat.{ℕ, suc, ◌+◌, ◌*◌, ◌-◌, ◌≤◌, ◌<◌}
 use native.Mathlib.Numerals.{add-one}
 use native.Mathlib.Omega.{arith}
-use mathlib.Core.Path.{◌≡◌, refl, sym, ap, ◌∙◌}
+use mathlib.Core.Path.{◌≡◌, refl, sym, ap, ◌∙◌, subst}
 use mathlib.Core.Bool.{Bool, true, false, cond, ◌&&◌}
 use mathlib.Core.List.{List, [], ◌∷◌}
 use lib.ListN.{length, get_or, drop, drop_of_length-le, length-drop}
 use lib.Seq.{drop-cons}
 use lib.Dec.{eqb, ltb, leb}
+use borrow.Author.Tests.{ltb-false, leb-true}
 use Rattle.std.specs.declared.option.Option.TheVariants.{Some, None}
 use Rattle.sheet_rules.specs.Keys.{takes}
-use Rattle.sheet_rules.specs.Lines.{equals}
+use Rattle.sheet_rules.specs.Limits.{decimal_limit}
+use Rattle.sheet_rules.specs.Lines.{newline, comma, equals, digit0, digit9}
 use Rattle.lexer.specs.declared.Part.{Part}
-use Rattle.lexer.specs.declared.Part.TheVariants.{Empty}
+use Rattle.lexer.specs.declared.Part.TheVariants.{Empty, Zero, Digits}
 use Rattle.lexer.specs.declared.Turn.{Turn}
+use Rattle.lexer.specs.declared.Turn.TheVariants.{More, Comma, End, Torn}
 use Rattle.lexer.specs.declared.keys.KeyFacts.{KeyFacts}
-use Rattle.lexer.specs.Scan.{turn_of, on_turn, numbers_scan, code_limit, on_letter, key_scan, place_of_code, facts_of, found_line, with_key, after_key, line_at}
+use Rattle.lexer.specs.Scan.{PartFits, end_turn, turn_of, on_turn, numbers_scan, code_limit, on_letter, key_scan, place_of_code, facts_of, found_line, with_key, after_key, line_at}
 
 -- what is left of a text from a place on: its byte, and what is left from the next place on
 drop_next : (text : List ℕ) (i : ℕ) → i < length text → drop i text ≡ get_or text i 0 ∷ drop (i + 1) text
@@ -43,6 +46,45 @@ numbers_turn text ns p i h t e = numbers_next text ns p i h ∙ ap (λ (t' : Tur
 pub numbers_end : (text : List ℕ) (ns : List ℕ) (p : Part) (i : ℕ) → length text ≤ i → numbers_scan ns p i (drop i text) ≡ None
 unfolding numbers_scan
 numbers_end text ns p i h = ap (numbers_scan ns p i) (drop_of_length-le text h)
+
+data TurnFits : Turn → Type 0 where
+  more_fits : {p : Part} → PartFits p → TurnFits (More p)
+  comma_fits : {v : ℕ} → TurnFits (Comma v)
+  end_fits : {v : ℕ} → TurnFits (End v)
+  torn_fits : TurnFits Torn
+
+end_turn_fits : (v b : ℕ) → TurnFits (end_turn v b)
+end_turn_fits v b = go (eqb b comma) (eqb b newline)
+  where
+    go : (x y : Bool) → TurnFits (cond x (Comma v) (cond y (End v) Torn))
+    go true y = comma_fits
+    go false true = end_fits
+    go false false = torn_fits
+
+turn_of_fits : (p : Part) (b : ℕ) → TurnFits (turn_of p b)
+turn_of_fits Empty b = go (ltb b digit0) (ltb digit9 b) refl (eqb b digit0)
+  where
+    go : (x y : Bool) → ltb digit9 b ≡ y → (z : Bool)
+        → TurnFits (cond x Torn (cond y Torn (cond z (More Zero) (More (Digits (b - digit0))))))
+    go true y e z = torn_fits
+    go false true e z = torn_fits
+    go false false e true = more_fits tt
+    go false false e false = let h : b ≤ 57 = ltb-false digit9 b e in more_fits {p = Digits (b - digit0)} (omega arith)
+turn_of_fits Zero b = end_turn_fits 0 b
+turn_of_fits (Digits v) b = go (ltb b digit0) (ltb digit9 b) (leb (v * 10 + (b - digit0)) decimal_limit) refl
+  where
+    go : (x y z : Bool) → leb (v * 10 + (b - digit0)) decimal_limit ≡ z
+        → TurnFits (cond x (end_turn v b) (cond y (end_turn v b) (cond z (More (Digits (v * 10 + (b - digit0)))) Torn)))
+    go true y z e = end_turn_fits v b
+    go false true z e = end_turn_fits v b
+    go false false true e = more_fits {p = Digits (v * 10 + (b - digit0))} (leb-true _ _ e)
+    go false false false e = torn_fits
+
+pub part_fits : (p : Part) (b : ℕ) (p' : Part) → turn_of p b ≡ More p' → PartFits p'
+part_fits p b p' e = fitting (subst TurnFits e (turn_of_fits p b))
+  where
+    fitting : {q : Part} → TurnFits (More q) → PartFits q
+    fitting (more_fits f) = f
 
 -- the place after a key lies past its first byte and within the text
 

@@ -46,10 +46,14 @@ PartFits Empty = Unit {0}
 PartFits Zero = Unit {0}
 PartFits (Digits v) = v ≤ decimal_limit
 
--- on with the numbers after a turn at place i; a tenth number is one too many for every key
+-- so many numbers of a line may have a comma behind them: a tenth number is one too many for every key
+abbrev pub comma_limit : ℕ
+comma_limit = 8
+
+-- on with the numbers after a turn at place i
 abbrev pub on_turn : Turn → List ℕ → ℕ → (List ℕ → Part → Option (List ℕ × ℕ)) → Option (List ℕ × ℕ)
 on_turn (More p) ns i more = more ns p
-on_turn (Comma v) ns i more = cond (ltb (length ns) 8) (more (ns ++ (v ∷ [])) Empty) None
+on_turn (Comma v) ns i more = cond (ltb (length ns) comma_limit) (more (ns ++ (v ∷ [])) Empty) None
 on_turn (End v) ns i more = Some (ns ++ (v ∷ []), i + 1)
 on_turn Torn ns i more = None
 

@@ -1,3 +1,4 @@
 pub mod JudgeLaws
 pub mod LineLaws
 pub mod StrictLaws
+pub mod PlaceLaws

@@ -94,10 +94,10 @@ module _ (text : List ℕ) (c : Cursor) where
     Tells-torn (Place.Instruction o) b = refl
     Tells-torn Place.Nowhere b = refl
 
-    told_torn : (wanted : Place) (b : ℕ) → LineTold wanted b text c (turned_away Malformed c.line)
+    pub told_torn : (wanted : Place) (b : ℕ) → LineTold wanted b text c (turned_away Malformed c.line)
     told_torn wanted b = record { told = Tells-torn wanted b; onward = Onward.stopped }
 
-    instr_torn : (forms filled : ℕ) → InstrTold forms filled text c (turned_away Malformed c.line)
+    pub instr_torn : (forms filled : ℕ) → InstrTold forms filled text c (turned_away Malformed c.line)
     instr_torn forms filled =
         record {
           told = torn (instr_line forms filled) (Strict-instr forms filled);

@@ -20,7 +20,7 @@ cleared_same w w' o =
 
 -- the promise, by what was asked
 module _ {A B : Type 0} {size : ℕ} {reply short : A} {output : List B} {w : List ℕ} {result : List B} {w' : List ℕ} {result' : List B} {r : A} where
-  turned : enough size w result ≡ false → (r ≡ short) × (w' ≡ w) × (result' ≡ result) → Asked size reply short output w result w' result' r
+  pub turned : enough size w result ≡ false → (r ≡ short) × (w' ≡ w) × (result' ≡ result) → Asked size reply short output w result w' result' r
   turned e t =
       record {
         told = t.0 ∙ sym (ap (λ (x : Bool). cond x reply short) e);
@@ -28,7 +28,7 @@ module _ {A B : Type 0} {size : ℕ} {reply short : A} {output : List B} {w : Li
         left = t.1 ∙ sym (ap (λ (x : Bool). cond x (cleared w) w) e);
       }
 
-  answered : enough size w result ≡ true → {w₁ : List ℕ} → Told reply output w result w₁ result' r → w' ≡ cleared w₁ → Asked size reply short output w result w' result' r
+  pub answered : enough size w result ≡ true → {w₁ : List ℕ} → Told reply output w result w₁ result' r → w' ≡ cleared w₁ → Asked size reply short output w result w' result' r
   answered e {w₁} t c =
       record {
         told = t.same ∙ sym (ap (λ (x : Bool). cond x reply short) e);
@@ -71,3 +71,13 @@ module _ {F A : Type 0} {g : Once F (MutBor (List ℕ) × Unit {0}) (A × (MutBo
           let l : length w < work_size = omega (arith, h) in
           let t = less l in
           turned (ap (λ b. b && leb 0 0) (lt-leb work_size (length w) l)) (t.0 ∙ s, t.1, refl)
+
+-- the same reply in other words
+pub Asked-as : {A A' B : Type 0} (f : A → A') {size : ℕ} {reply short : A} {output : List B} {w : List ℕ} {result : List B} {w' : List ℕ} {result' : List B} {r : A} {x : A'}
+    → Asked size reply short output w result w' result' r → x ≡ f r → Asked size (f reply) (f short) output w result w' result' x
+Asked-as f {size} {reply} {short} {w = w} {result = result} k e =
+    record { told = e ∙ ap f k.told ∙ go (enough size w result); written = k.written; left = k.left }
+  where
+    go : (b : Bool) → f (cond b reply short) ≡ cond b (f reply) (f short)
+    go true = refl
+    go false = refl
