@@ -1,4 +1,4 @@
--- A place that a `let .. else` did not find is another one: an enum's tags count its cases as the rules' numbers count the places.
+-- A place whose tag is not the wanted one's is another one: an enum's tags count its cases as the rules' numbers count the places.
 -- Assumes nothing.
 use Prim.Native.Nat.{ℕ}
 use mathlib.Core.Path.{◌≡◌, refl, subst, ◌∙◌}
@@ -31,7 +31,7 @@ tag_number Main = refl
 tag_number (Instruction operation) = refl
 tag_number Nowhere = refl
 
--- none of the tags left is the wanted place's
+-- where the wanted place's tag is not among some tags, no place with one of them is the same
 pub other_place : (k w : Place) (ks : List ℕ) → T (not (has_key ks (place_number w))) → OneOf ks (tag_of the_type k) → same_place k w ≡ false
 other_place k w ks t o = ne_eqb (place_number k) (place_number w) (λ e. miss ks (place_number w) t (subst (OneOf ks) (tag_number k ∙ e) o))
 

@@ -1,4 +1,4 @@
--- What a `let .. else` did not find: a refusal that is no misfit says nothing is lacking, and a lack that is no member has no name.
+-- By an enum's tags: a refusal that is no misfit says nothing is lacking, and a lack that is no member has no name.
 -- Assumes nothing.
 use Prim.Native.Nat.{ℕ}
 use mathlib.Core.Path.{◌≡◌, refl}
